@@ -1,6 +1,6 @@
 //! Words: the texts of elements that have no further form.
 
-ghost use Rattle.std.specs.Prelude.{◌≡◌, ◌≤◌, length, position};
+ghost use Rattle.std.specs.Prelude.{◌≡◌, ◌≤◌, [], length, position};
 ghost use Rattle.dsd_values.specs.Reading.{IsElementText, filled_word_of, is_no_element_byte, word_between, word_of};
 
 use crate::fault::ValueFault;
@@ -27,6 +27,15 @@ impl Model for Word {
 }
 
 impl Word {
+    /// The word of no characters.
+    pub fn empty() -> Word
+        ensures { result ≡ [] }
+    {
+        Word {
+            text: ArrayVec::new(),
+        }
+    }
+
     pub fn as_slice(&self) -> &[u8]
         ensures value { result.now ≡ self.now }
         ensures characters { IsElementText result.now }
