@@ -1,0 +1,27 @@
+-- What a base record is: the value that a set 894 spells.
+use Rattle.std.specs.Prelude.{ℕ, List, Option}
+use Rattle.std.specs.List.{sum_by}
+use Rattle.dsd_values.specs.Calendar.{Date}
+use Rattle.dsd_values.specs.declared.extra.Extra.{Extra}
+use Rattle.dsd_values.specs.declared.flag.Flag.{Flag}
+use Rattle.dsd_values.specs.declared.line.Line.{Line}
+use Rattle.dsd_values.specs.declared.signature.Signature.{Signature}
+
+pub record BaseRecord : Type 0 where
+  pub flag : Flag
+  pub number : List ℕ
+  pub day : Date
+  pub receiver_duns : List ℕ
+  pub receiver_place : List ℕ
+  pub supplier_duns : List ℕ
+  pub supplier_place : List ℕ
+  pub tail : List ℕ
+  pub references : List (List ℕ)
+  pub lines : List Line
+  pub extras : List Extra
+  pub deposit : Option ℕ
+  pub signature : Signature
+
+-- the sum of the quantities of these lines
+abbrev pub quantities : List Line → ℕ
+quantities lines = sum_by (λ line. line.quantity) lines

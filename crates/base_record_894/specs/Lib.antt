@@ -1,0 +1,6 @@
+pub mod BaseRecord
+pub mod HeadTable
+pub mod Grammar
+pub mod PlainText
+pub mod Said
+pub mod FirstRefusal

@@ -1,0 +1,74 @@
+-- What the segments of a base record say so far, and why the next one is refused.
+use Rattle.std.specs.Prelude.{ℕ, ◌+◌, Bool, true, false, not, ◌&&◌, ◌==◌, pos, List, length, Option, Some, None}
+use Rattle.block_check.specs.Crc16.{crc_from}
+use Rattle.segments.specs.Views.{Seg, element_of}
+use Rattle.segments.specs.Elements.{◌or_else◌}
+use Rattle.segments.specs.Tables.{totals_fault, totals_in}
+use Rattle.segments.specs.Kinds.{kind_of, next_phase, is_start_of, is_done}
+use Rattle.segments.specs.SoFar.{SoFar, kept, phase_in}
+use Rattle.segments.specs.SoFar as course
+use Rattle.segments.specs.Reasons.{when, as_value, admission, course_reason}
+use Rattle.segments.specs.declared.kind.Form.TheVariants as forms
+use Rattle.segments.specs.declared.kind.Kind.{Kind}
+use Rattle.segments.specs.declared.kind.Kind.TheVariants as kinds
+use Rattle.segments.specs.declared.phase.Phase.{Phase}
+use Rattle.segments.specs.declared.phase.Phase.TheVariants as phases
+use Rattle.segments.specs.declared.set_fault.SetReason.{SetReason}
+use Rattle.segments.specs.declared.set_fault.SetReason.TheVariants as reasons
+use Rattle.base_record_894.specs.BaseRecord.{quantities}
+use Rattle.base_record_894.specs.HeadTable.{head_fault, head_in}
+use Rattle.base_record_894.specs.declared.head.Head.{Head}
+
+-- what both sets say, and the head where it has come
+pub record Said : Type 0 where
+  pub course : SoFar
+  pub head : Option Head
+
+abbrev pub nothing : Said
+nothing = record { course = course.nothing; head = None }
+
+abbrev pub is_at_start : Phase → Bool
+is_at_start phases.Start = true
+is_at_start _ = false
+
+-- a text that begins as an answer is one that later work reads
+abbrev pub answer_reason : Phase → Seg → Option SetReason
+answer_reason phase seg = when (is_at_start phase && is_start_of forms.Answer seg) (reasons.NotYet (element_of seg 0))
+
+-- the stated quantity is the sum of the lines' quantities
+abbrev pub quantity_reason : ℕ → ℕ → Option SetReason
+quantity_reason said computed = when (not (said == computed)) (reasons.Totals said (pos computed))
+
+abbrev pub own_reason : Said → Seg → Kind → Option SetReason
+own_reason m seg kinds.Head = as_value (head_fault seg)
+own_reason m seg kinds.Totals = as_value (totals_fault seg) or_else quantity_reason (totals_in seg).quantity (quantities m.course.lines)
+own_reason m seg kind = course_reason m.course seg kind
+
+-- The first reason against a segment, behind what those before it say: none where it may stand there and is right.
+unfoldable pub reason_of : Said → Seg → Option SetReason
+reason_of m seg =
+    answer_reason m.course.phase seg
+    or_else admission forms.Base m.course.phase (kind_of forms.Base seg) seg
+    or_else own_reason m seg (kind_of forms.Base seg)
+
+abbrev pub head_after : Kind → Head → Option Head → Option Head
+head_after kinds.Head new old = Some new
+head_after _ new old = old
+
+unfoldable pub kept_by : Said → Seg → Kind → Phase → ℕ → ℕ → Said
+kept_by m seg kind phase count check = record {
+  course = kept m.course seg kind phase count check;
+  head = head_after kind (head_in seg) m.head;
+}
+
+-- what is said with one more segment
+abbrev pub after : Said → Seg → Said
+after m seg = kept_by m seg (kind_of forms.Base seg) (phase_in (next_phase m.course.phase (kind_of forms.Base seg) forms.Base)) (m.course.count + 1) (crc_from m.course.check seg.bytes)
+
+abbrev pub has_head : Option Head → Bool
+has_head (Some head) = true
+has_head None = false
+
+-- the trailer has come, behind a head
+abbrev pub is_whole : Said → Bool
+is_whole m = is_done m.course.phase && has_head m.head

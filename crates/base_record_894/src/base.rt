@@ -1,0 +1,146 @@
+//! The base record of a delivery.
+
+ghost use Rattle.std.specs.Prelude.{◌≡◌};
+ghost use Rattle.base_record_894.specs.FirstRefusal.{record_of};
+ghost use Rattle.base_record_894.specs.PlainText.{IsSpelled};
+
+use crate::head::Head;
+use crate::notes::Notes;
+use crate::parts::Parts;
+use dsd_values::{Cents, Day, DeliveryNumber, Extras, Flag, Kept, Lines, Signature, Word};
+use segments::Seal;
+use std::alloc::Global;
+use std::marker::Model;
+
+/// What a supplier states of a delivery: a value that some text of a set 894 spells.
+#[derive(Debug, Drop)]
+pub struct Base {
+    head: Head,
+    references: Notes,
+    lines: Lines,
+    extras: Extras,
+    deposit: Option<Cents>,
+    signature: Signature,
+}
+
+impl Model for Base {
+    ghost use Rattle.base_record_894.specs.BaseRecord.{BaseRecord};
+    ghost use Rattle.base_record_894.specs.PlainText.{IsSpelled};
+
+    ghost Value = { BaseRecord };
+
+    ghost view = { λ b. record { flag = b.head.flag; number = b.head.number; day = b.head.day; receiver_duns = b.head.receiver_duns; receiver_place = b.head.receiver_place; supplier_duns = b.head.supplier_duns; supplier_place = b.head.supplier_place; tail = b.head.tail; references = b.references; lines = b.lines; extras = b.extras; deposit = b.deposit; signature = b.signature } };
+
+    ghost invariant = { λ b. IsSpelled (record { flag = b.head.flag; number = b.head.number; day = b.head.day; receiver_duns = b.head.receiver_duns; receiver_place = b.head.receiver_place; supplier_duns = b.head.supplier_duns; supplier_place = b.head.supplier_place; tail = b.head.tail; references = b.references; lines = b.lines; extras = b.extras; deposit = b.deposit; signature = b.signature }) };
+}
+
+/// The record and the seal of what was read.
+pub fn seal_up(alloc: Global, parts: Parts) -> (Base, Seal)
+    requires { IsSpelled (record_of parts) }
+    ensures base { result.0 ≡ record_of parts }
+    ensures seal { result.1 ≡ seal_of parts }
+{
+    let closed = parts.closed;
+    let base = Base {
+        head: parts.head,
+        references: Notes::new(alloc),
+        lines: closed.lines,
+        extras: Extras::new(alloc),
+        deposit: closed.totals.deposit,
+        signature: closed.signature,
+    };
+    let seal = Seal {
+        control: closed.control,
+        check: closed.check,
+    };
+    (base, seal)
+}
+
+impl Base {
+    /// Whether the delivery is charged or credited.
+    pub fn flag(&self) -> Flag
+        ensures { result ≡ self.now.flag }
+    {
+        self.head.flag
+    }
+
+    pub fn number(&self) -> &DeliveryNumber
+        ensures { result.now ≡ self.now.number }
+    {
+        &self.head.number
+    }
+
+    /// The day of the delivery.
+    pub fn day(&self) -> Day
+        ensures { result ≡ self.now.day }
+    {
+        self.head.day
+    }
+
+    /// The receiver's DUNS number.
+    pub fn receiver_duns(&self) -> &Word
+        ensures { result.now ≡ self.now.receiver_duns }
+    {
+        &self.head.receiver_duns
+    }
+
+    /// The receiver's place.
+    pub fn receiver_place(&self) -> &Word
+        ensures { result.now ≡ self.now.receiver_place }
+    {
+        &self.head.receiver_place
+    }
+
+    /// The supplier's DUNS number.
+    pub fn supplier_duns(&self) -> &Word
+        ensures { result.now ≡ self.now.supplier_duns }
+    {
+        &self.head.supplier_duns
+    }
+
+    /// The supplier's place.
+    pub fn supplier_place(&self) -> &Word
+        ensures { result.now ≡ self.now.supplier_place }
+    {
+        &self.head.supplier_place
+    }
+
+    /// The elements of the head behind the listed ones.
+    pub fn tail(&self) -> &Kept
+        ensures { result.now ≡ self.now.tail }
+    {
+        &self.head.tail
+    }
+
+    pub fn references(&self) -> &Notes
+        ensures { result.now ≡ self.now.references }
+    {
+        &self.references
+    }
+
+    pub fn lines(&self) -> &Lines
+        ensures { result.now ≡ self.now.lines }
+    {
+        &self.lines
+    }
+
+    /// What stands at the level of the record.
+    pub fn extras(&self) -> &Extras
+        ensures { result.now ≡ self.now.extras }
+    {
+        &self.extras
+    }
+
+    /// Carried, without effect on the amount.
+    pub fn deposit(&self) -> Option<Cents>
+        ensures { result ≡ self.now.deposit }
+    {
+        self.deposit
+    }
+
+    pub fn signature(&self) -> &Signature
+        ensures { result.now ≡ self.now.signature }
+    {
+        &self.signature
+    }
+}

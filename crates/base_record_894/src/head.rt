@@ -1,0 +1,69 @@
+//! G82, the head of a base record.
+
+ghost use Rattle.std.specs.Prelude.{◌≡◌, []};
+ghost use Rattle.segments.specs.Views.{element_of};
+ghost use Rattle.segments.specs.Elements.{Reads, at_element, said};
+ghost use Rattle.dsd_values.specs.Reading.{flag_of, delivery_number_of};
+ghost use Rattle.dsd_values.specs.Calendar.{day_of};
+ghost use Rattle.base_record_894.specs.HeadTable.{head_fault, head_in, no_day};
+ghost use Rattle.dsd_values.specs.declared.flag.Flag.TheVariants as flags;
+
+use dsd_values::{read_day, read_delivery_number, read_flag, Day, DeliveryNumber, Flag, Kept, Word};
+use segments::elements::{in_element, tail, word};
+use segments::{ItemFault, Segment};
+use std::alloc::Global;
+
+/// What a G82 says.
+#[derive(Debug, Drop)]
+pub struct Head {
+    pub flag: Flag,
+    pub number: DeliveryNumber,
+    pub receiver_duns: Word,
+    pub receiver_place: Word,
+    pub supplier_duns: Word,
+    pub supplier_place: Word,
+    pub day: Day,
+    pub tail: Kept,
+}
+
+/// The seven elements of a G82, and the tail behind them.
+pub fn read_head(alloc: Global, segment: &Segment<'_>) -> Result<Head, ItemFault>
+    ensures { Reads result (head_fault segment.now) (λ head. head ≡ head_in segment.now) }
+{
+    let flag = flag(segment, 1)?;
+    let number = delivery_number(segment, 2)?;
+    let receiver_duns = word(segment, 3)?;
+    let receiver_place = word(segment, 4)?;
+    let supplier_duns = word(segment, 5)?;
+    let supplier_place = word(segment, 6)?;
+    let day = day(segment, 7)?;
+    let tail = tail(alloc, segment, 8)?;
+    Ok(Head {
+        flag,
+        number,
+        receiver_duns,
+        receiver_place,
+        supplier_duns,
+        supplier_place,
+        day,
+        tail,
+    })
+}
+
+fn flag(segment: &Segment<'_>, element: usize) -> Result<Flag, ItemFault>
+    ensures { Reads result (at_element element (flag_of (element_of segment.now element))) (λ v. v ≡ said flags.Debit (flag_of (element_of segment.now element))) }
+{
+    in_element(element, read_flag(segment.element(element)))
+}
+
+fn delivery_number(segment: &Segment<'_>, element: usize) -> Result<DeliveryNumber, ItemFault>
+    ensures { Reads result (at_element element (delivery_number_of (element_of segment.now element))) (λ v. v ≡ said [] (delivery_number_of (element_of segment.now element))) }
+{
+    in_element(element, read_delivery_number(segment.element(element)))
+}
+
+fn day(segment: &Segment<'_>, element: usize) -> Result<Day, ItemFault>
+    ensures { Reads result (at_element element (day_of (element_of segment.now element))) (λ v. v ≡ said no_day (day_of (element_of segment.now element))) }
+{
+    in_element(element, read_day(segment.element(element)))
+}

@@ -1,0 +1,75 @@
+//! Reading a plain base record from its text.
+
+ghost use Rattle.std.specs.Prelude.{◌≡◌, ℕ, ◌+◌, ◌<◌, ◌≤◌, List, [], ◌∷◌, length, IfOk, OnOk, None, Some};
+ghost use Rattle.segments.specs.Refusal.{Answers};
+ghost use Rattle.segments.specs.SegmentCut.{cut_of};
+ghost use Rattle.segments.specs.declared.seal.Seal.{Seal as SealValue};
+ghost use Rattle.base_record_894.specs.BaseRecord.{BaseRecord};
+ghost use Rattle.base_record_894.specs.PlainText.{IsPlain894};
+ghost use Rattle.base_record_894.specs.Said.{nothing};
+ghost use Rattle.base_record_894.specs.FirstRefusal.{refusal_of, said_by, IsReadFrom};
+
+use crate::base::{seal_up, Base};
+use crate::parts::Parts;
+use crate::reader::Reader;
+use dsd_values::Cents;
+use segments::{Seal, Segment, SegmentReader, SetFault, SetReason};
+use std::alloc::Global;
+
+/// Reads a base record: its value and its seal.
+pub fn read_894(alloc: Global, text: &[u8]) -> Result<(Base, Seal), SetFault>
+    // What is read is spelled so.
+    ensures found { IfOk result (λ x. (amount : ℕ) × IsPlain894 x.0 x.1 amount text.now) }
+
+    // What is spelled so is read, unless memory runs out.
+    ensures only { (base : BaseRecord) (seal : SealValue) (amount : ℕ) → IsPlain894 base seal amount text.now → Answers result None (λ x. (x.0 ≡ base) × (x.1 ≡ seal)) }
+
+    // It is refused at the first segment that has a reason against it, for its first one.
+    ensures exact { Answers result (refusal_of text.now) (λ _. Unit {0}) }
+{
+    let (base, seal, _) = read_plain_894(alloc, text)?;
+    Ok((base, seal))
+}
+
+/// Reads a base record: its value, its seal, and the amount as it is said, which may differ from the price.
+pub fn read_plain_894(alloc: Global, text: &[u8]) -> Result<(Base, Seal, Cents), SetFault>
+    // What is read is spelled so.
+    ensures found { IfOk result (λ x. IsPlain894 x.0 x.1 x.2 text.now) }
+
+    // What is spelled so is read, unless memory runs out.
+    ensures only { (base : BaseRecord) (seal : SealValue) (amount : ℕ) → IsPlain894 base seal amount text.now → Answers result None (λ x. (x.0 ≡ base) × (x.1 ≡ seal) × (x.2 ≡ amount)) }
+
+    // It is refused at the first segment that has a reason against it, for its first one.
+    ensures exact { Answers result (refusal_of text.now) (λ _. Unit {0}) }
+{
+    let parts = read_parts(alloc, text)?;
+    let amount = parts.closed.totals.amount;
+    let (base, seal) = seal_up(alloc, parts);
+    Ok((base, seal, amount))
+}
+
+/// Reads segment after segment.
+fn read_parts(alloc: Global, text: &[u8]) -> Result<Parts, SetFault>
+    ensures { Answers result (refusal_of text.now) (IsReadFrom (said_by nothing (cut_of text.now).segments)) }
+{
+    let mut machine = Reader::new(alloc)?;
+    let mut segments = SegmentReader::new(text);
+    let mut place = 0;
+    while let Some(segment) = next_segment(&mut segments, place)? {
+        machine.step(&segment)?;
+        place = segment.end();
+    }
+    machine.finish(place)
+}
+
+/// The next segment, or its refusal at the place where it starts.
+fn next_segment<'a>(segments: &mut SegmentReader<'a>, place: usize) -> Result<Option<Segment<'a>>, SetFault>
+{
+    match segments.next() {
+        Ok(segment) => Ok(segment),
+        Err(fault) => Err(SetFault::Refused {
+            place,
+            reason: SetReason::Segment(fault),
+        }),
+    }
+}

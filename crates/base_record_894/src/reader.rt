@@ -1,0 +1,130 @@
+//! The reader of a base record, pushed one segment at a time.
+
+ghost use Rattle.std.specs.Prelude.{◌≡◌, ℕ, ◌+◌, ◌<◌, ◌≤◌, List, [], ◌∷◌, length, IfOk, OnOk, None, Some};
+ghost use Rattle.segments.specs.Reasons.{Says};
+ghost use Rattle.segments.specs.Refusal.{Answers, ended_at};
+ghost use Rattle.base_record_894.specs.BaseRecord.{quantities as sum_of_quantities};
+ghost use Rattle.base_record_894.specs.Said.{nothing, answer_reason, quantity_reason, own_reason, reason_of, kept_by, after, is_whole};
+ghost use Rattle.base_record_894.specs.FirstRefusal.{IsReadFrom};
+ghost use Rattle.dsd_values.specs.declared.limits.TheConstants.{MOST_LINES as most_lines, SET_BYTES as set_bytes};
+
+use crate::head::{read_head, Head};
+use crate::parts::Parts;
+use dsd_values::{Line, Memory, MOST_LINES, SET_BYTES};
+use segments::{at, is_start_of, not_yet, refused, Course, Form, Kind, Phase, Segment, SetFault, SetReason};
+use std::alloc::Global;
+use std::marker::Model;
+
+/// A base record so far.
+#[derive(Drop)]
+pub struct Reader {
+    alloc: Global,
+    course: Course,
+    head: Option<Head>,
+}
+
+impl Model for Reader {
+    ghost use Rattle.base_record_894.specs.Said.{Said};
+
+    ghost Value = { Said };
+
+    ghost view = { λ r. record { course = r.course; head = r.head } };
+}
+
+impl Reader {
+    /// Nothing has been read.
+    pub fn new(alloc: Global) -> Result<Reader, Memory>
+        ensures { IfOk result (λ reader. reader ≡ nothing) }
+    {
+        Ok(Reader {
+            alloc,
+            course: Course::new(alloc)?,
+            head: None,
+        })
+    }
+
+    /// Takes one more segment.
+    #[tactic(auto, unfolding(crate::specs::Said::kept_by, crate::specs::Said::reason_of, segments::specs::SoFar::kept, segments::specs::SoFar::moved))]
+    pub fn step(&mut self, segment: &Segment<'_>) -> Result<(), SetFault>
+        requires { self.old.course.count ≤ SET_BYTES }
+        ensures exact { Says result segment.now.start (reason_of self.old segment.now) (λ _. self.new ≡ after self.old segment.now) }
+        ensures short { OnOk result (segment.now.start + length segment.now.bytes ≤ SET_BYTES) }
+    {
+        self.refuse_answer(segment)?;
+        let kind = Kind::of(Form::Base, segment);
+        let phase = self.course.admit(Form::Base, kind, segment)?;
+        self.keep(kind, segment)?;
+        self.course.advance(phase, segment);
+        Ok(())
+    }
+
+    /// Refuses a text that begins as an answer.
+    fn refuse_answer(&self, segment: &Segment<'_>) -> Result<(), SetFault>
+        ensures { Says result segment.now.start (answer_reason self.now.course.phase segment.now) (λ _. Unit {0}) }
+    {
+        if matches!(self.course.phase(), Phase::Start) && is_start_of(Form::Answer, segment) {
+            return not_yet(segment);
+        }
+        Ok(())
+    }
+
+    /// Keeps what a segment of this kind says.
+    #[tactic(auto, unfolding(crate::specs::Said::kept_by, segments::specs::SoFar::kept))]
+    fn keep(&mut self, kind: Kind, segment: &Segment<'_>) -> Result<(), SetFault>
+        requires { self.old.course.count ≤ SET_BYTES }
+        ensures { Says result segment.now.start (own_reason self.old segment.now kind)
+            (λ _. self.new ≡ kept_by self.old segment.now kind self.old.course.phase self.old.course.count self.old.course.check) }
+    {
+        match kind {
+            Kind::Head => self.head = Some(at(segment, read_head(self.alloc, segment))?),
+            Kind::Totals => return self.keep_totals(segment),
+            kind => return self.course.keep(kind, segment),
+        }
+        Ok(())
+    }
+
+    /// Keeps the totals where they are those of the lines.
+    fn keep_totals(&mut self, segment: &Segment<'_>) -> Result<(), SetFault>
+        requires { self.old.course.count ≤ SET_BYTES }
+        ensures { Says result segment.now.start (own_reason self.old segment.now kinds.Totals)
+            (λ _. self.new ≡ kept_by self.old segment.now kinds.Totals self.old.course.phase self.old.course.count self.old.course.check) }
+    {
+        self.course.keep(Kind::Totals, segment)?;
+        let said = self.course.totals().quantity;
+        let computed = quantities(self.course.lines());
+        if said != computed {
+            return refused(
+                segment,
+                SetReason::Totals {
+                    said: u64::from(said),
+                    computed: i128::from(computed),
+                },
+            );
+        }
+        Ok(())
+    }
+
+    /// What was read, where the set is whole; the place is the text's length.
+    pub fn finish(self, place: usize) -> Result<Parts, SetFault>
+        ensures { Answers result (ended_at (is_whole self) place None) (IsReadFrom self) }
+    {
+        match self.head {
+            Some(head) if self.course.phase().is_done() => Ok(Parts {
+                head,
+                closed: self.course.close(),
+            }),
+            _ => Err(SetFault::Refused {
+                place,
+                reason: SetReason::Order,
+            }),
+        }
+    }
+}
+
+/// The sum of the quantities of these lines.
+fn quantities(lines: &[Line]) -> u32
+    requires { length lines.now ≤ MOST_LINES }
+    ensures { result ≡ sum_of_quantities lines.now }
+{
+    lines.iter().map(|line| line.quantity.get()).sum()
+}

@@ -1,0 +1,38 @@
+-- Ids are short words.
+use Rattle.std.proofs.Common.{◌≡◌, ℕ, ◌+◌, ◌<◌, ◌≤◌, ◌==◌, ◌&&◌, ◌||◌, Bool, true, false, not, nat_le, List, [], ◌∷◌, length, position, Option, Some, None, Ok, refl, sym, ap, ◌∙◌, arith, IsTrue}
+use Rattle.std.proofs.lemmas.Bool.Decides.{nat_tests}
+use Rattle.std.specs.List.{AllPass, list_all, prefix_len}
+use Rattle.std.proofs.lemmas.List.Sums.{list_all-from_AllPass}
+use Rattle.dsd_values.specs.Reading.{word_of, is_no_element_byte}
+use Rattle.segments.specs.SegmentSpelling.{is_id, is_element_character, is_inside, is_star}
+
+pub id_short : (id : List ℕ) → IsTrue (is_id id) → length id ≤ 3
+id_short [] e = cc
+id_short (b ∷ more) e = grind (arith, nat_tests)
+
+and_both : (a b : Bool) → (a && b) ≡ true → (a ≡ true) × (b ≡ true)
+and_both true b e = (refl, e)
+and_both false b e = cc
+
+inside_is : (a b : Bool) → (a && not b) ≡ true → not (not a || b) ≡ true
+inside_is true true e = cc
+inside_is true false e = refl
+inside_is false b e = cc
+
+all_inside : (text : List ℕ) → list_all is_element_character text ≡ true → prefix_len (λ (b : ℕ). not (is_no_element_byte b)) text ≡ length text
+all_inside [] e = refl
+all_inside (b ∷ more) e =
+    let both = and_both (is_element_character b) (list_all is_element_character more) e in
+    let test : not (is_no_element_byte b) ≡ true = inside_is (is_inside b) (is_star b) both.0 in
+    rw test (omega (arith, all_inside more both.1))
+
+none_there : (text : List ℕ) → prefix_len (λ (b : ℕ). not (is_no_element_byte b)) text ≡ length text → position is_no_element_byte text ≡ None
+none_there text e = grind (arith, nat_tests)
+
+no_place : (text : List ℕ) → AllPass is_element_character text → position is_no_element_byte text ≡ None
+no_place text e = none_there text (all_inside text (list_all-from_AllPass is_element_character text e))
+
+pub word_is : (text : List ℕ) → AllPass is_element_character text → length text ≤ 3 → word_of text ≡ Ok text
+word_is text e short =
+    let none = no_place text e in
+    grind (arith, nat_tests)

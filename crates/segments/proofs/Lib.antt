@@ -1,0 +1,15 @@
+pub mod Small
+pub mod Faultless
+pub mod Apart
+pub mod Rest
+pub mod Back
+pub mod Forth
+pub mod Keeps
+pub mod Trimmed
+pub mod Parted
+pub mod Scan
+pub mod Front
+pub mod Judging
+pub mod Sized
+pub mod Beyond
+pub mod Ids

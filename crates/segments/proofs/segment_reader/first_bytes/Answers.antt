@@ -1,0 +1,5 @@
+use Rattle.std.proofs.lemmas.List.{take_min}
+use Rattle.segments.proofs.segment_reader.first_bytes.Goals as goal
+
+pub returns-clause-value : goal.returns-clause-value
+returns-clause-value c = rw c.min.ensures (take_min 513 c.args.rest.now)

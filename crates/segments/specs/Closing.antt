@@ -1,0 +1,11 @@
+-- What a set that was read comes to, besides its head.
+use Rattle.std.specs.Prelude.{◌≡◌}
+use Rattle.segments.specs.SoFar.{SoFar}
+use Rattle.segments.specs.declared.stated.Closed.{Closed}
+
+pub record IsClosed (m : SoFar) (closed : Closed) : Type 0 where
+  pub control : closed.control ≡ m.control
+  pub lines : closed.lines ≡ m.lines
+  pub totals : closed.totals ≡ m.totals
+  pub signature : closed.signature ≡ m.signature
+  pub check : closed.check ≡ m.integrity

@@ -1,0 +1,133 @@
+-- Which lists of segments are sets: the grammar that both sets share, driven by the value, apart from any reading.
+use Rattle.std.specs.Prelude.{◌≡◌, ℕ, ◌+◌, ◌<◌, ◌≤◌, Bool, false, List, [], ◌∷◌, ◌++◌, length, drop, Ok, Option}
+use Rattle.std.specs.List.{flat_map}
+use Rattle.block_check.specs.Crc16.{crc_of}
+use Rattle.dsd_values.specs.Reading.{plain_number_of, dsd_of, quantity_of, total_quantity_of, cents_of, cost_of, check_of, word_of, filled_word_of, word_between}
+use Rattle.dsd_values.specs.declared.line.Line.{Line}
+use Rattle.dsd_values.specs.declared.signature.Signature.{Signature}
+use Rattle.dsd_values.specs.declared.limits.TheConstants.{MOST_LINES}
+use Rattle.segments.specs.Views.{Seg, element_of}
+use Rattle.segments.specs.Elements.{optional, tail_from}
+use Rattle.segments.specs.Kinds.{kind_of}
+use Rattle.segments.specs.Reasons.{has_line}
+use Rattle.segments.specs.declared.stated.StatedTotals.{StatedTotals}
+use Rattle.segments.specs.declared.kind.Form.{Form}
+use Rattle.segments.specs.declared.kind.Kind.{Kind}
+use Rattle.segments.specs.declared.kind.Kind.TheVariants as kinds
+
+-- What the segments from here on are, the ones before them at hand.
+abbrev pub Shape : Type 1
+Shape = List Seg → List Seg → Type 0
+
+-- one of this kind that says so, and then the rest
+abbrev pub One : Form → Kind → (List Seg → Seg → Type 0) → Shape → Shape
+One form kind Says rest before [] = ⊥
+One form kind Says rest before (seg ∷ segs) = (kind_of form seg ≡ kind) × Says before seg × rest (before ++ seg ∷ []) segs
+
+abbrev pub End : Shape
+End before segs = segs ≡ []
+
+-- ---- what a segment says
+
+abbrev pub AreEmpty : List (List ℕ) → Type 0
+AreEmpty [] = Unit {0}
+AreEmpty (text ∷ more) = (text ≡ []) × AreEmpty more
+
+-- the elements behind the last listed one are empty
+abbrev pub IsNoLonger : ℕ → Seg → Type 0
+IsNoLonger last seg = AreEmpty (drop (last + 1) seg.parts)
+
+-- ST: the control number
+abbrev pub IsStart : List ℕ → Seg → Type 0
+IsStart control seg = (word_between 4 9 (element_of seg 2) ≡ Ok control) × IsNoLonger 2 seg
+
+-- LS and LE: the label of the loop
+abbrev pub IsLabel : List ℕ → Seg → Type 0
+IsLabel label seg = (word_between 1 6 (element_of seg 1) ≡ Ok label) × IsNoLonger 1 seg
+
+-- G83 and G89: a line
+pub record IsItem (line : Line) (seg : Seg) : Type 0 where
+  pub dsd : dsd_of (element_of seg 1) ≡ Ok line.dsd
+  pub quantity : quantity_of (element_of seg 2) ≡ Ok line.quantity
+  pub unit : filled_word_of (element_of seg 3) ≡ Ok line.unit
+  pub upc : word_of (element_of seg 4) ≡ Ok line.upc
+  pub qualifier : word_of (element_of seg 5) ≡ Ok line.qualifier
+  pub id : word_of (element_of seg 6) ≡ Ok line.id
+  pub case_code : word_of (element_of seg 7) ≡ Ok line.case_code
+  pub cost : cost_of (element_of seg 8) ≡ Ok line.cost
+  pub pack : word_of (element_of seg 9) ≡ Ok line.pack
+  pub label : word_of (element_of seg 10) ≡ Ok line.label
+  pub tail : tail_from 11 seg ≡ line.tail
+
+-- G84: the totals as they are stated
+pub record IsTotals (totals : StatedTotals) (seg : Seg) : Type 0 where
+  pub quantity : total_quantity_of (element_of seg 1) ≡ Ok totals.quantity
+  pub amount : cents_of (element_of seg 2) ≡ Ok totals.amount
+  pub deposit : optional cents_of (element_of seg 3) ≡ Ok totals.deposit
+  pub ends : IsNoLonger 3 seg
+
+-- G86
+pub record IsSignature (signature : Signature) (seg : Seg) : Type 0 where
+  pub mark : word_between 1 12 (element_of seg 1) ≡ Ok signature.mark
+  pub name : word_of (element_of seg 2) ≡ Ok signature.name
+  pub ends : IsNoLonger 2 seg
+
+-- ---- what both sets have behind their head
+
+pub record Tail : Type 0 where
+  pub control : List ℕ
+  pub lines : List Line
+  pub totals : StatedTotals
+  pub signature : Signature
+  pub check : ℕ
+
+abbrev pub bytes_of : List Seg → List ℕ
+bytes_of segs = flat_map (λ (seg : Seg). seg.bytes) segs
+
+-- SE: the number of segments with ST and SE, and the control number again
+abbrev pub IsTrailer : Tail → List Seg → Seg → Type 0
+IsTrailer t before seg = (plain_number_of (element_of seg 1) ≡ Ok (length before + 1)) × (filled_word_of (element_of seg 2) ≡ Ok t.control) × IsNoLonger 2 seg
+
+-- G85: the CRC-16 of the bytes of the segments before it
+abbrev pub IsIntegrity : Tail → List Seg → Seg → Type 0
+IsIntegrity t before seg = (check_of (element_of seg 1) ≡ Ok t.check) × (t.check ≡ crc_of (bytes_of before)) × IsNoLonger 1 seg
+
+abbrev pub Trailer : Form → Tail → Shape
+Trailer form t = One form kinds.Trailer (IsTrailer t) End
+
+abbrev pub Integrity : Form → Tail → Shape
+Integrity form t = One form kinds.Integrity (IsIntegrity t) (Trailer form t)
+
+abbrev pub Signed : Form → Tail → Shape
+Signed form t = One form kinds.Signature (λ _ seg. IsSignature t.signature seg) (Integrity form t)
+
+abbrev pub Closing : Form → Tail → Shape
+Closing form t = One form kinds.Totals (λ _ seg. IsTotals t.totals seg) (Signed form t)
+
+-- an item for each of these lines, and then the rest; a plain set has nothing behind its items
+abbrev pub Items : Form → List Line → Shape → Shape
+Items form [] rest before segs = rest before segs
+Items form (line ∷ lines) rest before segs = (line.extras ≡ []) × One form kinds.Item (λ _ seg. IsItem line seg) (Items form lines rest) before segs
+
+abbrev pub LoopEnd : Form → List ℕ → Shape → Shape
+LoopEnd form label rest = One form kinds.LoopEnd (λ _ seg. IsLabel label seg) rest
+
+-- a loop where there are lines
+abbrev pub Loop : Form → List Line → Shape → Shape
+Loop form [] rest before segs = rest before segs
+Loop form (line ∷ lines) rest before segs =
+    (label : List ℕ) × One form kinds.LoopStart (λ _ seg. IsLabel label seg) (Items form (line ∷ lines) (LoopEnd form label rest)) before segs
+
+abbrev pub Body : List Line → Form → Tail → Shape
+Body lines form t = Loop form lines (Closing form t)
+
+-- ---- what holds of the lines as a whole
+
+-- no number stands twice
+abbrev pub AreApart : List Line → Type 0
+AreApart [] = Unit {0}
+AreApart (line ∷ lines) = (has_line line.dsd lines ≡ false) × AreApart lines
+
+pub record IsSound (lines : List Line) : Type 0 where
+  pub apart : AreApart lines
+  pub limit : length lines ≤ MOST_LINES

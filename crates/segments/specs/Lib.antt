@@ -1,0 +1,14 @@
+pub mod Views
+pub mod SegmentSpelling
+pub mod SegmentCut
+pub mod PartEnds
+pub mod Elements
+pub mod Tables
+pub mod Kinds
+pub mod SoFar
+pub mod Reasons
+pub mod Refusal
+pub mod Grammar
+pub mod Numbers
+pub mod Closing
+pub mod Order

@@ -1,0 +1,25 @@
+-- Where the parts of a segment end.
+use Rattle.std.specs.Prelude.{◌≡◌, ℕ, ◌+◌, ◌-◌, ◌==◌, if◌then◌else◌, slice_index, ◌^◌, ◌<◌, ◌≤◌, All, List, [], ◌∷◌, length}
+use Rattle.segments.specs.SegmentSpelling.{IsPart, Spells, SpellsSegment}
+use Rattle.segments.specs.SegmentCut.{parts_of, seg_at}
+
+-- the places of the separators behind parts that begin at this place, and last the place behind them all
+abbrev pub ends_from : ℕ → List (List ℕ) → List ℕ
+ends_from place [] = []
+ends_from place (part ∷ more) = (place + length part) ∷ ends_from (place + length part + 1) more
+
+-- where the part with this number starts: behind the separator before it
+abbrev pub start_of : List ℕ → ℕ → ℕ
+start_of ends number = if number == 0 then 0 else slice_index ends (number - 1) + 1
+
+-- these bytes are their parts, joined, and a terminator, within the limit
+pub record IsSpelled (bytes : List ℕ) : Type 0 where
+  pub spelled : Spells (parts_of bytes) bytes
+  pub characters : All IsPart (parts_of bytes)
+  pub short : length bytes ≤ 512
+
+-- a segment in its spelling at this place, and where its parts end
+pub record KeepsSegment (start : ℕ) (bytes ends : List ℕ) : Type 0 where
+  pub spelled : SpellsSegment (seg_at start bytes)
+  pub parted : ends ≡ ends_from 0 (parts_of bytes)
+  pub placed : start + length bytes < 2 ^ 64

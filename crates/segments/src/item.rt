@@ -1,0 +1,42 @@
+//! Items: a line of a delivery, read from its segment.
+
+ghost use Rattle.std.specs.Prelude.{◌≡◌};
+ghost use Rattle.segments.specs.Elements.{Reads};
+ghost use Rattle.segments.specs.Tables.{item_fault, line_in};
+
+use crate::elements::{cost_at, dsd_at, filled_word_at, quantity_at, tail_at, word_at};
+use crate::item_fault::ItemFault;
+use crate::segment::Segment;
+use dsd_values::{Extras, Line};
+use std::alloc::Global;
+
+/// The line of a G83 or a G89: its ten elements, and the tail behind them. The id of the segment is not looked at.
+pub fn read_item(alloc: Global, segment: &Segment<'_>) -> Result<Line, ItemFault>
+    ensures { Reads result (item_fault segment.now) (λ line. line ≡ line_in segment.now) }
+{
+    let dsd = dsd_at(segment, 1)?;
+    let quantity = quantity_at(segment, 2)?;
+    let unit = filled_word_at(segment, 3)?;
+    let upc = word_at(segment, 4)?;
+    let qualifier = word_at(segment, 5)?;
+    let id = word_at(segment, 6)?;
+    let case_code = word_at(segment, 7)?;
+    let cost = cost_at(segment, 8)?;
+    let pack = word_at(segment, 9)?;
+    let label = word_at(segment, 10)?;
+    let tail = tail_at(alloc, segment, 11)?;
+    Ok(Line {
+        dsd,
+        quantity,
+        unit,
+        upc,
+        qualifier,
+        id,
+        case_code,
+        cost,
+        pack,
+        label,
+        tail,
+        extras: Extras::new(alloc),
+    })
+}

@@ -1,0 +1,38 @@
+//! Segments of a text, and the machine that both sets are read by, one segment after another.
+#![tactic(auto)]
+
+mod closing;
+mod course;
+mod elements;
+mod item;
+mod item_fault;
+mod kind;
+mod laws;
+mod numbered_lines;
+mod phase;
+mod refusing;
+mod seal;
+mod segment;
+mod segment_body;
+mod segment_fault;
+mod segment_reader;
+mod set_fault;
+mod stated;
+
+pub use course::Course;
+pub use elements::{in_element, tail_at, word_at};
+pub use item::read_item;
+pub use item_fault::ItemFault;
+pub use kind::{Form, Kind, is_start_of};
+pub use laws::segments_are_those_spelled;
+pub use phase::Phase;
+pub use refusing::{at, not_yet, refused};
+pub use seal::Seal;
+pub use segment::{SEGMENT_BYTES, SEGMENT_ELEMENTS, Segment};
+pub use segment_fault::SegmentFault;
+pub use segment_reader::SegmentReader;
+pub use set_fault::{SetFault, SetReason};
+pub use stated::{Closed, StatedTotals};
+
+#[cfg(test)]
+mod tests;

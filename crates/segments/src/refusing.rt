@@ -1,0 +1,54 @@
+//! Refusals at a segment.
+
+ghost use Rattle.std.specs.Prelude.{◌≡◌, Err};
+ghost use Rattle.segments.specs.Views.{element_of};
+ghost use Rattle.segments.specs.Reasons.{Says, at_segment, not_yet_reason};
+
+use crate::item_fault::ItemFault;
+use crate::kind::Kind;
+use crate::segment::Segment;
+use crate::set_fault::{SetFault, SetReason};
+use dsd_values::read_word;
+
+/// A refusal at this segment.
+pub fn refused<T>(segment: &Segment<'_>, reason: SetReason) -> Result<T, SetFault>
+    ensures { result ≡ Err (SetFault.Refused segment.now.start reason) }
+{
+    Err(SetFault::Refused {
+        place: segment.start(),
+        reason,
+    })
+}
+
+/// The answer about the elements of this segment, as one about the set.
+pub fn at<T>(segment: &Segment<'_>, answer: Result<T, ItemFault>) -> Result<T, SetFault>
+    ensures { result ≡ at_segment segment.now.start answer }
+{
+    match answer {
+        Ok(value) => Ok(value),
+        Err(ItemFault::Value { element, fault }) => {
+            refused(segment, SetReason::Value { element, fault })
+        }
+        Err(ItemFault::Memory) => Err(SetFault::Memory),
+    }
+}
+
+/// Refuses what only later work reads.
+pub(crate) fn built(kind: Kind, segment: &Segment<'_>) -> Result<(), SetFault>
+    ensures { Says result segment.now.start (not_yet_reason kind segment.now) (λ _. Unit {0}) }
+{
+    match kind {
+        Kind::Reference | Kind::Allowance | Kind::LineNote | Kind::Note => not_yet(segment),
+        _ => Ok(()),
+    }
+}
+
+/// The refusal of a segment that only later work reads.
+pub fn not_yet<T>(segment: &Segment<'_>) -> Result<T, SetFault>
+    ensures { result ≡ Err (SetFault.Refused segment.now.start (SetReason.NotYet (element_of segment.now 0))) }
+{
+    match read_word(segment.id()) {
+        Ok(id) => refused(segment, SetReason::NotYet(id)),
+        Err(_) => unreachable!(),
+    }
+}

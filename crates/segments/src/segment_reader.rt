@@ -1,0 +1,131 @@
+ghost use Rattle.std.specs.Prelude.{◌≡◌, ◌+◌, ◌<◌, ◌≤◌, ◌^◌, drop, length, take};
+ghost use Rattle.segments.specs.SegmentCut.{after_body, body_length, first_of, left_after, limited as within_limit, next_of, size_of, text_start};
+
+use crate::segment::{SEGMENT_BYTES, Segment};
+use crate::segment_body::body_at;
+use crate::segment_fault::SegmentFault;
+use std::marker::Model;
+
+/// Lends the segments of a text one after another.
+#[derive(Drop)]
+pub struct SegmentReader<'a> {
+    rest: &'a [u8],
+    place: usize,
+}
+
+impl<'a> Model for SegmentReader<'a> {
+    ghost use Rattle.std.specs.Prelude.{◌+◌, ◌<◌, ◌^◌, length};
+    ghost use Rattle.segments.specs.Views.{Left};
+
+    ghost Value = { Left };
+
+    ghost view = { λ r. record { rest = r.rest.now; place = r.place } };
+
+    ghost invariant = { λ r. r.place + length r.rest.now < 2 ^ 64 };
+}
+
+impl<'a> SegmentReader<'a> {
+    /// A reader at the front of the text, whose places it counts from 0.
+    pub fn new(text: &'a [u8]) -> SegmentReader<'a>
+        ensures { result ≡ text_start text.now }
+    {
+        SegmentReader {
+            rest: text,
+            place: 0,
+        }
+    }
+
+    /// The next segment, or none at the end of the text. After a fault the reader stays, and each call gives the same.
+    pub fn next(&mut self) -> Result<Option<Segment<'a>>, SegmentFault>
+        ensures answer { result ≡ next_of self.old }
+        ensures left { self.new ≡ left_after self.old }
+    {
+        self.advance()
+    }
+
+    #[tactic(auto, unfolding(crate::specs::SegmentCut::next_of, crate::specs::SegmentCut::left_after, crate::specs::SegmentCut::first_of))]
+    fn advance(&mut self) -> Result<Option<Segment<'a>>, SegmentFault>
+        ensures answer { result ≡ next_of self.old }
+        ensures left { self.new ≡ left_after self.old }
+    {
+        if self.rest.is_empty() {
+            return Ok(None);
+        }
+        let segment = first_segment(self.place, self.rest)?;
+        let size = segment.bytes().len();
+        self.rest = &self.rest[size..];
+        self.place += size;
+        Ok(Some(segment))
+    }
+}
+
+/// The segment at the front of what is left.
+#[tactic(auto, unfolding(crate::specs::SegmentCut::first_of))]
+fn first_segment<'a>(start: usize, rest: &'a [u8]) -> Result<Segment<'a>, SegmentFault>
+    requires { start + length rest.now < 2 ^ 64 }
+    ensures { result ≡ first_of start rest.now }
+{
+    let body = body_at(first_bytes(rest));
+    let size = first_size(start, body.length, rest)?;
+    Segment::judged(start, first(rest, size), body.ends)
+}
+
+/// The bytes that decide: as many as a segment may have, and one more.
+fn first_bytes(rest: &[u8]) -> &[u8]
+    ensures value { result.now ≡ take 513 rest.now }
+    ensures short { length result.now ≤ 513 }
+{
+    &rest[..(SEGMENT_BYTES + 1).min(rest.len())]
+}
+
+/// The first bytes, of which there are so many.
+fn first(rest: &[u8], size: usize) -> &[u8]
+    requires { size ≤ length rest.now }
+    ensures { result.now ≡ take size rest.now }
+{
+    &rest[..size]
+}
+
+/// How many bytes the segment at the front takes, with its terminator, where so many of the first 513 stand before it.
+fn first_size(start: usize, body: usize, rest: &[u8]) -> Result<usize, SegmentFault>
+    requires front { body ≡ body_length (take 513 rest.now) }
+    requires placed { start + length rest.now < 2 ^ 64 }
+    ensures { result ≡ size_of start rest.now }
+{
+    if body > SEGMENT_BYTES {
+        return Err(SegmentFault::TooLong(start));
+    }
+    size_behind(start, body, behind(rest, body))
+}
+
+/// How many bytes a segment takes, where so many stand before what follows.
+fn size_behind(start: usize, body: usize, after: &[u8]) -> Result<usize, SegmentFault>
+    requires placed { start + body + length after.now < 2 ^ 64 }
+    ensures { result ≡ after_body start body after.now }
+{
+    match after {
+        [] => Err(SegmentFault::NoEnd(start)),
+        [b'\n', ..] => limited(start, body + 1),
+        [b'\r', ..] if body == SEGMENT_BYTES => Err(SegmentFault::TooLong(start)),
+        [b'\r'] => Err(SegmentFault::NoEnd(start)),
+        [b'\r', b'\n', ..] => limited(start, body + 2),
+        [byte, ..] => Err(SegmentFault::BadByte(start + body, *byte)),
+    }
+}
+
+fn limited(start: usize, size: usize) -> Result<usize, SegmentFault>
+    ensures { result ≡ within_limit start size }
+{
+    if size > SEGMENT_BYTES {
+        return Err(SegmentFault::TooLong(start));
+    }
+    Ok(size)
+}
+
+/// What stands from this place on.
+fn behind(text: &[u8], place: usize) -> &[u8]
+    requires { place ≤ length text.now }
+    ensures { result.now ≡ drop place text.now }
+{
+    &text[place..]
+}
