@@ -1,2 +1,4 @@
 pub mod Moves
-pub mod Laws
+pub mod FoundOnly
+pub mod Reading
+pub mod OneRecord

@@ -1,5 +1,5 @@
 -- What is left of a plain base record, by what was said so far; and a segment more of it, both ways.
-use Rattle.std.proofs.Common.{◌≡◌, ℕ, ◌+◌, ◌==◌, Bool, true, false, not, List, [], ◌∷◌, ◌++◌, length, Result, Ok, Some, None, Option, refl, sym, ap, ◌∙◌, subst, pos}
+use Rattle.std.proofs.Common.{◌≡◌, ℕ, ◌+◌, ◌==◌, Bool, true, false, not, List, [], ◌∷◌, ◌++◌, length, Result, Ok, Some, None, Option, refl, sym, ap, ◌∙◌, subst, append-nil, pos}
 use Rattle.dsd_values.specs.Calendar.{Date}
 use Rattle.dsd_values.specs.declared.flag.Flag.{Flag}
 use Rattle.dsd_values.specs.declared.flag.Flag.TheVariants as flags
@@ -181,46 +181,42 @@ module _ (m : Said) (b : BaseRecord) (s : Seal) (amount : ℕ) (before : List Se
     unfolding kept kept_by
     totals_on from h n (k, e, ((l, c), same, rest)) = (k, none_then _ _ e (agreed l same), (h, ((l, c), same, rest)))
 
-    course_next : (from : Phase) → is_course from ≡ true → RestAt from forms.Base m.course (tail_of b s amount) before (seg ∷ segs)
-      → course_forth.Next forms.Base m.course (tail_of b s amount) before seg segs count check sound at from
-    course_next from p r = course_forth.forth forms.Base m.course (tail_of b s amount) before seg segs count check sound at from p r
-
     -- A segment that is the front of the rest.
     pub forth : (from : Phase) → Rest894 from m b s amount before (seg ∷ segs) → Next from
     unfolding kept_by
     forth phases.Start r = record { kind = kinds.Start; plain = refl; moves_on = refl; goes = start_on r }
     forth phases.Head r = record { kind = kinds.Head; plain = refl; moves_on = refl; goes = head_on r }
     forth phases.References (h, (line ∷ lines, l, c, r)) =
-        let n = course_next phases.References refl (line ∷ lines, l, c, r) in
-        record { kind = kinds.LoopStart; plain = refl; moves_on = refl; goes = (n.goes.0, n.goes.1, (h, n.goes.2)) }
+        let g = course_forth.loop_start_on forms.Base m.course (tail_of b s amount) before seg segs count check sound at line lines l c r in
+        record { kind = kinds.LoopStart; plain = refl; moves_on = refl; goes = (g.0, g.1, (h, g.2)) }
     forth phases.References (h, ([], l, c, r)) =
-        let n = course_next phases.References refl ([], l, c, r) in
-        record { kind = kinds.Totals; plain = refl; moves_on = refl; goes = totals_on phases.References h refl n.goes }
+        let g = course_forth.totals_on forms.Base m.course (tail_of b s amount) before seg segs count check sound at (l ∙ append-nil m.course.lines) c r in
+        record { kind = kinds.Totals; plain = refl; moves_on = refl; goes = totals_on phases.References h refl g }
     forth phases.Body (h, (line ∷ lines, l, c, r)) =
-        let n = course_next phases.Body refl (line ∷ lines, l, c, r) in
-        record { kind = kinds.LoopStart; plain = refl; moves_on = refl; goes = (n.goes.0, n.goes.1, (h, n.goes.2)) }
+        let g = course_forth.loop_start_on forms.Base m.course (tail_of b s amount) before seg segs count check sound at line lines l c r in
+        record { kind = kinds.LoopStart; plain = refl; moves_on = refl; goes = (g.0, g.1, (h, g.2)) }
     forth phases.Body (h, ([], l, c, r)) =
-        let n = course_next phases.Body refl ([], l, c, r) in
-        record { kind = kinds.Totals; plain = refl; moves_on = refl; goes = totals_on phases.Body h refl n.goes }
+        let g = course_forth.totals_on forms.Base m.course (tail_of b s amount) before seg segs count check sound at (l ∙ append-nil m.course.lines) c r in
+        record { kind = kinds.Totals; plain = refl; moves_on = refl; goes = totals_on phases.Body h refl g }
     forth phases.FirstItem (h, r) =
-        let n = course_next phases.FirstItem refl r in
-        record { kind = kinds.Item; plain = refl; moves_on = refl; goes = (n.goes.0, n.goes.1, (h, n.goes.2)) }
+        let g = course_forth.first_item_on forms.Base m.course (tail_of b s amount) before seg segs count check sound at r in
+        record { kind = kinds.Item; plain = refl; moves_on = refl; goes = (g.0, g.1, (h, g.2)) }
     forth phases.Items (h, (line ∷ lines, l, c, r)) =
-        let n = course_next phases.Items refl (line ∷ lines, l, c, r) in
-        record { kind = kinds.Item; plain = refl; moves_on = refl; goes = (n.goes.0, n.goes.1, (h, n.goes.2)) }
+        let g = course_forth.item_on forms.Base m.course (tail_of b s amount) before seg segs count check sound at line lines l c r in
+        record { kind = kinds.Item; plain = refl; moves_on = refl; goes = (g.0, g.1, (h, g.2)) }
     forth phases.Items (h, ([], l, c, r)) =
-        let n = course_next phases.Items refl ([], l, c, r) in
-        record { kind = kinds.LoopEnd; plain = refl; moves_on = refl; goes = (n.goes.0, n.goes.1, (h, n.goes.2)) }
-    forth phases.Extras (h, r) =
-        let n = course_next phases.Extras refl r in
-        record { kind = kinds.Totals; plain = refl; moves_on = refl; goes = totals_on phases.Extras h refl n.goes }
+        let g = course_forth.loop_end_on forms.Base m.course (tail_of b s amount) before seg segs count check sound at l c r in
+        record { kind = kinds.LoopEnd; plain = refl; moves_on = refl; goes = (g.0, g.1, (h, g.2)) }
+    forth phases.Extras (h, ((l, c), r)) =
+        let g = course_forth.totals_on forms.Base m.course (tail_of b s amount) before seg segs count check sound at l c r in
+        record { kind = kinds.Totals; plain = refl; moves_on = refl; goes = totals_on phases.Extras h refl g }
     forth phases.Signature (h, r) =
-        let n = course_next phases.Signature refl r in
-        record { kind = kinds.Signature; plain = refl; moves_on = refl; goes = (n.goes.0, n.goes.1, (h, n.goes.2)) }
+        let g = course_forth.signature_on forms.Base m.course (tail_of b s amount) before seg segs count check sound at r in
+        record { kind = kinds.Signature; plain = refl; moves_on = refl; goes = (g.0, g.1, (h, g.2)) }
     forth phases.Integrity (h, r) =
-        let n = course_next phases.Integrity refl r in
-        record { kind = kinds.Integrity; plain = refl; moves_on = refl; goes = (n.goes.0, n.goes.1, (h, n.goes.2)) }
+        let g = course_forth.integrity_on forms.Base m.course (tail_of b s amount) before seg segs count check sound at r in
+        record { kind = kinds.Integrity; plain = refl; moves_on = refl; goes = (g.0, g.1, (h, g.2)) }
     forth phases.Trailer (h, r) =
-        let n = course_next phases.Trailer refl r in
-        record { kind = kinds.Trailer; plain = refl; moves_on = refl; goes = (n.goes.0, n.goes.1, (h, n.goes.2)) }
+        let g = course_forth.trailer_on forms.Base m.course (tail_of b s amount) before seg segs count check sound at r in
+        record { kind = kinds.Trailer; plain = refl; moves_on = refl; goes = (g.0, g.1, (h, g.2)) }
     forth phases.Done (h, (read, totals, g, i, e)) = cc

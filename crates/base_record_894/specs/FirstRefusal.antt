@@ -1,12 +1,15 @@
 -- The first refusal of a text: at each segment from the front the reasons are asked, in their order, over this segment
 -- and those before it.
-use Rattle.std.specs.Prelude.{◌≡◌, ℕ, ◌+◌, List, [], ◌∷◌, length, Option, Some}
+use Rattle.std.specs.Prelude.{◌≡◌, ℕ, ◌+◌, List, [], ◌∷◌, length, Option, Some, Result, Ok, Err}
 use Rattle.segments.specs.Views.{Seg}
 use Rattle.segments.specs.SegmentCut.{cut_of}
 use Rattle.segments.specs.Refusal.{Refusal, ended_at, refused_at}
 use Rattle.segments.specs.Closing.{IsClosed}
 use Rattle.segments.specs.declared.segment_fault.SegmentFault.{SegmentFault}
 use Rattle.segments.specs.declared.seal.Seal.{Seal}
+use Rattle.segments.specs.declared.set_fault.SetFault.{SetFault}
+use Rattle.segments.specs.declared.set_fault.SetFault.TheVariants as errors
+use Rattle.segments.specs.declared.set_fault.SetReason.TheVariants as reasons
 use Rattle.base_record_894.specs.BaseRecord.{BaseRecord}
 use Rattle.base_record_894.specs.Said.{Said, nothing, reason_of, after, is_whole}
 use Rattle.base_record_894.specs.declared.parts.Parts.{Parts}
@@ -20,6 +23,11 @@ refusal_from m place (seg ∷ segs) fault = refused_at (reason_of m seg) seg.sta
 -- The first refusal of the text, where there is one.
 abbrev pub refusal_of : List ℕ → Option Refusal
 refusal_of text = refusal_from nothing 0 (cut_of text).segments (cut_of text).fault
+
+-- the next segment, or its refusal at the place where it starts
+abbrev pub segment_at : ℕ → Result (Option Seg) SegmentFault → Result (Option Seg) SetFault
+segment_at place (Ok next) = Ok next
+segment_at place (Err fault) = Err (errors.Refused place (reasons.Segment fault))
 
 -- what these segments say too
 abbrev pub said_by : Said → List Seg → Said

@@ -27,13 +27,10 @@ pub record Said : Type 0 where
 abbrev pub nothing : Said
 nothing = record { course = course.nothing; head = None }
 
-abbrev pub is_at_start : Phase → Bool
-is_at_start phases.Start = true
-is_at_start _ = false
-
 -- a text that begins as an answer is one that later work reads
-abbrev pub answer_reason : Phase → Seg → Option SetReason
-answer_reason phase seg = when (is_at_start phase && is_start_of forms.Answer seg) (reasons.NotYet (element_of seg 0))
+abbrev pub answer_reason : Phase → Kind → Seg → Option SetReason
+answer_reason phases.Start kinds.Other seg = when (is_start_of forms.Answer seg) (reasons.NotYet (element_of seg 0))
+answer_reason _ _ seg = None
 
 -- the stated quantity is the sum of the lines' quantities
 abbrev pub quantity_reason : ℕ → ℕ → Option SetReason
@@ -47,7 +44,7 @@ own_reason m seg kind = course_reason m.course seg kind
 -- The first reason against a segment, behind what those before it say: none where it may stand there and is right.
 unfoldable pub reason_of : Said → Seg → Option SetReason
 reason_of m seg =
-    answer_reason m.course.phase seg
+    answer_reason m.course.phase (kind_of forms.Base seg) seg
     or_else admission forms.Base m.course.phase (kind_of forms.Base seg) seg
     or_else own_reason m seg (kind_of forms.Base seg)
 

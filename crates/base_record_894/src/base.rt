@@ -1,14 +1,14 @@
 //! The base record of a delivery.
 
 ghost use Rattle.std.specs.Prelude.{◌≡◌};
-ghost use Rattle.base_record_894.specs.FirstRefusal.{record_of};
+ghost use Rattle.base_record_894.specs.FirstRefusal.{record_of, seal_of};
 ghost use Rattle.base_record_894.specs.PlainText.{IsSpelled};
 
 use crate::head::Head;
 use crate::notes::Notes;
 use crate::parts::Parts;
 use dsd_values::{Cents, Day, DeliveryNumber, Extras, Flag, Kept, Lines, Signature, Word};
-use segments::Seal;
+use segments::{Closed, Seal};
 use std::alloc::Global;
 use std::marker::Model;
 
@@ -34,26 +34,30 @@ impl Model for Base {
     ghost invariant = { λ b. IsSpelled (record { flag = b.head.flag; number = b.head.number; day = b.head.day; receiver_duns = b.head.receiver_duns; receiver_place = b.head.receiver_place; supplier_duns = b.head.supplier_duns; supplier_place = b.head.supplier_place; tail = b.head.tail; references = b.references; lines = b.lines; extras = b.extras; deposit = b.deposit; signature = b.signature }) };
 }
 
-/// The record and the seal of what was read.
-pub fn seal_up(alloc: Global, parts: Parts) -> (Base, Seal)
+/// The record and the seal of what was read, and the amount as it is said.
+pub fn seal_up(alloc: Global, parts: Parts) -> (Base, Seal, Cents)
     requires { IsSpelled (record_of parts) }
     ensures base { result.0 ≡ record_of parts }
     ensures seal { result.1 ≡ seal_of parts }
+    ensures amount { result.2 ≡ parts.closed.totals.amount }
 {
-    let closed = parts.closed;
+    let Parts { head, closed } = parts;
+    let Closed {
+        control,
+        lines,
+        totals,
+        signature,
+        check,
+    } = closed;
     let base = Base {
-        head: parts.head,
+        head,
         references: Notes::new(alloc),
-        lines: closed.lines,
+        lines,
         extras: Extras::new(alloc),
-        deposit: closed.totals.deposit,
-        signature: closed.signature,
+        deposit: totals.deposit,
+        signature,
     };
-    let seal = Seal {
-        control: closed.control,
-        check: closed.check,
-    };
-    (base, seal)
+    (base, Seal { control, check }, totals.amount)
 }
 
 impl Base {

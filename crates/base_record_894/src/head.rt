@@ -9,7 +9,7 @@ ghost use Rattle.base_record_894.specs.HeadTable.{head_fault, head_in, no_day};
 ghost use Rattle.dsd_values.specs.declared.flag.Flag.TheVariants as flags;
 
 use dsd_values::{read_day, read_delivery_number, read_flag, Day, DeliveryNumber, Flag, Kept, Word};
-use segments::elements::{in_element, tail, word};
+use segments::{in_element, tail_at, word_at};
 use segments::{ItemFault, Segment};
 use std::alloc::Global;
 
@@ -32,12 +32,12 @@ pub fn read_head(alloc: Global, segment: &Segment<'_>) -> Result<Head, ItemFault
 {
     let flag = flag(segment, 1)?;
     let number = delivery_number(segment, 2)?;
-    let receiver_duns = word(segment, 3)?;
-    let receiver_place = word(segment, 4)?;
-    let supplier_duns = word(segment, 5)?;
-    let supplier_place = word(segment, 6)?;
+    let receiver_duns = word_at(segment, 3)?;
+    let receiver_place = word_at(segment, 4)?;
+    let supplier_duns = word_at(segment, 5)?;
+    let supplier_place = word_at(segment, 6)?;
     let day = day(segment, 7)?;
-    let tail = tail(alloc, segment, 8)?;
+    let tail = tail_at(alloc, segment, 8)?;
     Ok(Head {
         flag,
         number,

@@ -1,13 +1,14 @@
 //! Reading a plain base record from its text.
 
-ghost use Rattle.std.specs.Prelude.{◌≡◌, ℕ, ◌+◌, ◌<◌, ◌≤◌, List, [], ◌∷◌, length, IfOk, OnOk, None, Some};
+ghost use Rattle.std.specs.Prelude.{◌≡◌, ℕ, ◌+◌, ◌<◌, ◌≤◌, List, [], ◌∷◌, length, IfOk, IfSome, OnOk, None, Some};
 ghost use Rattle.segments.specs.Refusal.{Answers};
-ghost use Rattle.segments.specs.SegmentCut.{cut_of};
+ghost use Rattle.segments.specs.SegmentCut.{cut_of, next_of, left_after};
+ghost use Rattle.segments.specs.SegmentSpelling.{IsFront};
 ghost use Rattle.segments.specs.declared.seal.Seal.{Seal as SealValue};
 ghost use Rattle.base_record_894.specs.BaseRecord.{BaseRecord};
 ghost use Rattle.base_record_894.specs.PlainText.{IsPlain894};
 ghost use Rattle.base_record_894.specs.Said.{nothing};
-ghost use Rattle.base_record_894.specs.FirstRefusal.{refusal_of, said_by, IsReadFrom};
+ghost use Rattle.base_record_894.specs.FirstRefusal.{refusal_of, segment_at, said_by, IsReadFrom};
 
 use crate::base::{seal_up, Base};
 use crate::parts::Parts;
@@ -43,9 +44,7 @@ pub fn read_plain_894(alloc: Global, text: &[u8]) -> Result<(Base, Seal, Cents),
     ensures exact { Answers result (refusal_of text.now) (λ _. Unit {0}) }
 {
     let parts = read_parts(alloc, text)?;
-    let amount = parts.closed.totals.amount;
-    let (base, seal) = seal_up(alloc, parts);
-    Ok((base, seal, amount))
+    Ok(seal_up(alloc, parts))
 }
 
 /// Reads segment after segment.
@@ -63,7 +62,13 @@ fn read_parts(alloc: Global, text: &[u8]) -> Result<Parts, SetFault>
 }
 
 /// The next segment, or its refusal at the place where it starts.
-fn next_segment<'a>(segments: &mut SegmentReader<'a>, place: usize) -> Result<Option<Segment<'a>>, SetFault>
+fn next_segment<'a>(
+    segments: &mut SegmentReader<'a>,
+    place: usize,
+) -> Result<Option<Segment<'a>>, SetFault>
+    ensures answer { result ≡ segment_at place (next_of segments.old) }
+    ensures left { segments.new ≡ left_after segments.old }
+    ensures front { IfOk result (λ some. IfSome some (λ seg. IsFront seg segments.old segments.new)) }
 {
     match segments.next() {
         Ok(segment) => Ok(segment),

@@ -6,7 +6,7 @@ ghost use Rattle.segments.specs.Refusal.{Answers, ended_at};
 ghost use Rattle.base_record_894.specs.BaseRecord.{quantities as sum_of_quantities};
 ghost use Rattle.base_record_894.specs.Said.{nothing, answer_reason, quantity_reason, own_reason, reason_of, kept_by, after, is_whole};
 ghost use Rattle.base_record_894.specs.FirstRefusal.{IsReadFrom};
-ghost use Rattle.dsd_values.specs.declared.limits.TheConstants.{MOST_LINES as most_lines, SET_BYTES as set_bytes};
+ghost use Rattle.segments.specs.declared.kind.Kind.TheVariants as kinds;
 
 use crate::head::{read_head, Head};
 use crate::parts::Parts;
@@ -50,8 +50,8 @@ impl Reader {
         ensures exact { Says result segment.now.start (reason_of self.old segment.now) (λ _. self.new ≡ after self.old segment.now) }
         ensures short { OnOk result (segment.now.start + length segment.now.bytes ≤ SET_BYTES) }
     {
-        self.refuse_answer(segment)?;
         let kind = Kind::of(Form::Base, segment);
+        self.refuse_answer(kind, segment)?;
         let phase = self.course.admit(Form::Base, kind, segment)?;
         self.keep(kind, segment)?;
         self.course.advance(phase, segment);
@@ -59,13 +59,13 @@ impl Reader {
     }
 
     /// Refuses a text that begins as an answer.
-    fn refuse_answer(&self, segment: &Segment<'_>) -> Result<(), SetFault>
-        ensures { Says result segment.now.start (answer_reason self.now.course.phase segment.now) (λ _. Unit {0}) }
+    fn refuse_answer(&self, kind: Kind, segment: &Segment<'_>) -> Result<(), SetFault>
+        ensures { Says result segment.now.start (answer_reason self.now.course.phase kind segment.now) (λ _. Unit {0}) }
     {
-        if matches!(self.course.phase(), Phase::Start) && is_start_of(Form::Answer, segment) {
-            return not_yet(segment);
+        match (self.course.phase(), kind) {
+            (Phase::Start, Kind::Other) if is_start_of(Form::Answer, segment) => not_yet(segment),
+            _ => Ok(()),
         }
-        Ok(())
     }
 
     /// Keeps what a segment of this kind says.
@@ -83,6 +83,7 @@ impl Reader {
         Ok(())
     }
 
+    #[tactic(auto, unfolding(crate::specs::Said::kept_by, segments::specs::SoFar::kept))]
     /// Keeps the totals where they are those of the lines.
     fn keep_totals(&mut self, segment: &Segment<'_>) -> Result<(), SetFault>
         requires { self.old.course.count ≤ SET_BYTES }
@@ -108,10 +109,11 @@ impl Reader {
     pub fn finish(self, place: usize) -> Result<Parts, SetFault>
         ensures { Answers result (ended_at (is_whole self) place None) (IsReadFrom self) }
     {
-        match self.head {
-            Some(head) if self.course.phase().is_done() => Ok(Parts {
+        let Reader { course, head, .. } = self;
+        match head {
+            Some(head) if course.phase().is_done() => Ok(Parts {
                 head,
-                closed: self.course.close(),
+                closed: course.close(),
             }),
             _ => Err(SetFault::Refused {
                 place,
@@ -126,5 +128,9 @@ fn quantities(lines: &[Line]) -> u32
     requires { length lines.now ≤ MOST_LINES }
     ensures { result ≡ sum_of_quantities lines.now }
 {
-    lines.iter().map(|line| line.quantity.get()).sum()
+    let mut sum = 0;
+    for line in lines {
+        sum += line.quantity.get();
+    }
+    sum
 }

@@ -17,27 +17,19 @@ use Rattle.segments.proofs.Small.{none_then, when_not, value_none, bytes_same, n
 use Rattle.segments.proofs.Faultless.{right_item, line_said, right_loop_start, right_loop_end, right_totals, totals_said, right_signature, signature_said, right_integrity, right_trailer}
 use Rattle.segments.proofs.Apart.{apart_at}
 use Rattle.segments.proofs.Rest.{RestAt, RestBody, IsAt}
-use Rattle.segments.proofs.Back.{moves, is_plain, is_course}
 
 module _ (form : Form) (m : SoFar) (t : Tail) (before : List Seg) (seg : Seg) (segs : List Seg) (count check : ℕ) (sound : IsSound t.lines) (at : IsAt before m) where
   abbrev Goes : Phase → Kind → Type 0
   Goes from kind = (kind_of form seg ≡ kind) × (course_reason m seg kind ≡ None)
     × RestAt (phase_in (next_phase from kind form)) form (kept m seg kind (phase_in (next_phase from kind form)) count check) t (before ++ seg ∷ []) segs
 
-  -- the segment at the front, by its kind
-  pub record Next (from : Phase) : Type 0 where
-    pub kind : Kind
-    pub plain : is_plain kind ≡ true
-    pub moves_on : moves (next_phase from kind form) ≡ true
-    pub goes : Goes from kind
-
-  loop_start_on : (line : Line) (lines : List Line) → t.lines ≡ m.lines ++ line ∷ lines → t.control ≡ m.control → Body (line ∷ lines) form t before (seg ∷ segs) → Goes phases.References kinds.LoopStart
+  pub loop_start_on : (line : Line) (lines : List Line) → t.lines ≡ m.lines ++ line ∷ lines → t.control ≡ m.control → Body (line ∷ lines) form t before (seg ∷ segs) → Goes phases.References kinds.LoopStart
   unfolding kept
   loop_start_on line lines l c (label, (k, w, rest)) =
       (k, value_none _ (right_loop_start label seg w), (line, lines, l, c,
         subst (λ (name : List ℕ). Items form (line ∷ lines) (LoopEnd form name (Closing form t)) (before ++ seg ∷ []) segs) (ok_said [] _ label w.0) rest))
 
-  totals_on : t.lines ≡ m.lines → t.control ≡ m.control → Closing form t before (seg ∷ segs) → Goes phases.Extras kinds.Totals
+  pub totals_on : t.lines ≡ m.lines → t.control ≡ m.control → Closing form t before (seg ∷ segs) → Goes phases.Extras kinds.Totals
   unfolding kept
   totals_on l c (k, s, rest) = (k, value_none _ (right_totals t.totals seg s), ((l, c), totals_said t.totals seg s, rest))
 
@@ -53,66 +45,32 @@ module _ (form : Form) (m : SoFar) (t : Tail) (before : List Seg) (seg : Seg) (s
       none_then _ _ (when_not _ _ (not_le MOST_LINES (length m.lines) under)) (none_then _ _ (value_none _ (right_item line seg i))
         (when_not _ _ (ap (λ (n : ℕ). has_line n m.lines) (sym (ok_said 0 _ _ i.dsd)) ∙ new)))
 
-  first_item_on : RestAt phases.FirstItem form m t before (seg ∷ segs) → Goes phases.FirstItem kinds.Item
+  pub first_item_on : RestAt phases.FirstItem form m t before (seg ∷ segs) → Goes phases.FirstItem kinds.Item
   unfolding kept
   first_item_on (line, lines, l, c, (none, (k, i, rest))) = (k, item_none line lines i l, (lines, line_behind line lines none i l, c, rest))
 
-  item_on : (line : Line) (lines : List Line) → t.lines ≡ m.lines ++ line ∷ lines → t.control ≡ m.control → Items form (line ∷ lines) (LoopEnd form m.label (Closing form t)) before (seg ∷ segs) → Goes phases.Items kinds.Item
+  pub item_on : (line : Line) (lines : List Line) → t.lines ≡ m.lines ++ line ∷ lines → t.control ≡ m.control → Items form (line ∷ lines) (LoopEnd form m.label (Closing form t)) before (seg ∷ segs) → Goes phases.Items kinds.Item
   unfolding kept
   item_on line lines l c (none, (k, i, rest)) = (k, item_none line lines i l, (lines, line_behind line lines none i l, c, rest))
 
-  loop_end_on : t.lines ≡ m.lines ++ [] → t.control ≡ m.control → LoopEnd form m.label (Closing form t) before (seg ∷ segs) → Goes phases.Items kinds.LoopEnd
+  pub loop_end_on : t.lines ≡ m.lines ++ [] → t.control ≡ m.control → LoopEnd form m.label (Closing form t) before (seg ∷ segs) → Goes phases.Items kinds.LoopEnd
   unfolding kept
   loop_end_on l c (k, w, rest) = (k, value_none _ (right_loop_end m.label seg w), ((l ∙ append-nil m.lines, c), rest))
 
-  signature_on : RestAt phases.Signature form m t before (seg ∷ segs) → Goes phases.Signature kinds.Signature
+  pub signature_on : RestAt phases.Signature form m t before (seg ∷ segs) → Goes phases.Signature kinds.Signature
   unfolding kept
   signature_on (read, totals, (k, s, rest)) = (k, value_none _ (right_signature t.signature seg s), (read, totals, signature_said t.signature seg s, rest))
 
-  integrity_on : RestAt phases.Integrity form m t before (seg ∷ segs) → Goes phases.Integrity kinds.Integrity
+  pub integrity_on : RestAt phases.Integrity form m t before (seg ∷ segs) → Goes phases.Integrity kinds.Integrity
   unfolding kept
   integrity_on (read, totals, g, (k, (n, c, ends), rest)) =
       let said : t.check ≡ integrity_in seg = ok_said 0 _ _ n in
       (k, none_then _ _ (value_none _ (right_integrity t.check seg n ends)) (when_not _ _ (number_same _ _ (sym said ∙ c ∙ sym at.1))), (read, totals, g, said, rest))
 
-  trailer_on : RestAt phases.Trailer form m t before (seg ∷ segs) → Goes phases.Trailer kinds.Trailer
+  pub trailer_on : RestAt phases.Trailer form m t before (seg ∷ segs) → Goes phases.Trailer kinds.Trailer
   unfolding kept
   trailer_on (read, totals, g, i, (k, (n, w, ends), rest)) =
       let found : found_in seg ≡ m.count + 1 = sym (ok_said 0 _ _ n) ∙ ap (λ (u : ℕ). u + 1) (sym at.0) in
       let again : again_in seg ≡ m.control = sym (ok_said [] _ _ w) ∙ read.1 in
       (k, none_then _ _ (value_none _ (right_trailer (length before + 1) t.control seg n w ends)) (none_then _ _ (when_not _ _ (number_same _ _ found)) (when_not _ _ (bytes_same _ _ again))),
         (read, totals, g, i, rest))
-
-  -- the front of what follows a head
-  pub record NextBody : Type 0 where
-    pub kind : Kind
-    pub plain : is_plain kind ≡ true
-    pub to : Phase
-    pub from_references : next_phase phases.References kind form ≡ Some to
-    pub from_body : next_phase phases.Body kind form ≡ Some to
-    pub is : kind_of form seg ≡ kind
-    pub right : course_reason m seg kind ≡ None
-    pub rest : RestAt to form (kept m seg kind to count check) t (before ++ seg ∷ []) segs
-
-  pub body_forth : RestBody form m t before (seg ∷ segs) → NextBody
-  body_forth (line ∷ lines, l, c, r) =
-      let g = loop_start_on line lines l c r in
-      record { kind = kinds.LoopStart; plain = refl; to = phases.FirstItem; from_references = refl; from_body = refl; is = g.0; right = g.1; rest = g.2 }
-  body_forth ([], l, c, r) =
-      let g = totals_on (l ∙ append-nil m.lines) c r in
-      record { kind = kinds.Totals; plain = refl; to = phases.Signature; from_references = refl; from_body = refl; is = g.0; right = g.1; rest = g.2 }
-
-  pub forth : (from : Phase) → is_course from ≡ true → RestAt from form m t before (seg ∷ segs) → Next from
-  forth phases.References q (line ∷ lines, l, c, r) = record { kind = kinds.LoopStart; plain = refl; moves_on = refl; goes = loop_start_on line lines l c r }
-  forth phases.References q ([], l, c, r) = record { kind = kinds.Totals; plain = refl; moves_on = refl; goes = totals_on (l ∙ append-nil m.lines) c r }
-  forth phases.Body q (line ∷ lines, l, c, r) = record { kind = kinds.LoopStart; plain = refl; moves_on = refl; goes = loop_start_on line lines l c r }
-  forth phases.Body q ([], l, c, r) = record { kind = kinds.Totals; plain = refl; moves_on = refl; goes = totals_on (l ∙ append-nil m.lines) c r }
-  forth phases.FirstItem q r = record { kind = kinds.Item; plain = refl; moves_on = refl; goes = first_item_on r }
-  forth phases.Items q (line ∷ lines, l, c, rest) = record { kind = kinds.Item; plain = refl; moves_on = refl; goes = item_on line lines l c rest }
-  forth phases.Items q ([], l, c, rest) = record { kind = kinds.LoopEnd; plain = refl; moves_on = refl; goes = loop_end_on l c rest }
-  forth phases.Extras q ((l, c), r) = record { kind = kinds.Totals; plain = refl; moves_on = refl; goes = totals_on l c r }
-  forth phases.Signature q r = record { kind = kinds.Signature; plain = refl; moves_on = refl; goes = signature_on r }
-  forth phases.Integrity q r = record { kind = kinds.Integrity; plain = refl; moves_on = refl; goes = integrity_on r }
-  forth phases.Trailer q r = record { kind = kinds.Trailer; plain = refl; moves_on = refl; goes = trailer_on r }
-  forth phases.Done q (read, totals, g, i, e) = cc
-  forth _ q r = cc

@@ -16,7 +16,7 @@ body_length-take (suc n) (byte ∷ rest) =
 long_is : (start body : ℕ) (rest : List ℕ) → 512 < body → (if nat_lt 512 body then Err (TooLong start) else after_body start body (drop body rest)) ≡ Err (TooLong start)
 long_is start body rest far = grind (arith, nat_tests)
 
-short_is : (start body : ℕ) (rest : List ℕ) → body ≤ 512 → (if nat_lt 512 body then Err (TooLong start) else after_body start body (drop body rest)) ≡ after_body start body (drop body rest)
+pub short_is : (start body : ℕ) (rest : List ℕ) → body ≤ 512 → (if nat_lt 512 body then Err (TooLong start) else after_body start body (drop body rest)) ≡ after_body start body (drop body rest)
 short_is start body rest short = grind (arith, nat_tests)
 
 pub size_of-long : (start body : ℕ) (rest : List ℕ) → body ≡ body_length (take 513 rest) → 512 < body → size_of start rest ≡ Err (TooLong start)

@@ -44,7 +44,7 @@ too_many seg id many = grind (arith, nat_tests)
 pub too_many_at : (start : ℕ) (bytes : List ℕ) → is_id (get_or (parts_of bytes) 0 []) ≡ true → 31 < length (parts_of bytes) → Err (TooManyElements start) ≡ with_parts (seg_at start bytes)
 too_many_at start bytes id many = too_many (seg_at start bytes) id many
 
-a_segment : (seg : Seg) → is_id (get_or seg.parts 0 []) ≡ true → length seg.parts ≤ 31 → Ok seg ≡ with_parts seg
+pub a_segment : (seg : Seg) → is_id (get_or seg.parts 0 []) ≡ true → length seg.parts ≤ 31 → Ok seg ≡ with_parts seg
 a_segment seg id few = grind (arith, nat_tests)
 
 pub a_segment_at : (start : ℕ) (bytes : List ℕ) → is_id (get_or (parts_of bytes) 0 []) ≡ true → length (parts_of bytes) ≤ 31 → Ok (seg_at start bytes) ≡ with_parts (seg_at start bytes)

@@ -13,3 +13,7 @@ pub mod Judging
 pub mod Sized
 pub mod Beyond
 pub mod Ids
+pub mod Spelled
+pub mod Complete
+pub mod Stepping
+pub mod Cutting

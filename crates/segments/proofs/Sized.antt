@@ -68,7 +68,7 @@ ends_at start body size (byte ∷ more) h =
       | inr return ↦ rw return.0 (ends_return start body size more return.1)
     ]
 
-some_ending : (ending : List ℕ) → IsEnding ending → 0 < length ending
+pub some_ending : (ending : List ℕ) → IsEnding ending → 0 < length ending
 some_ending ending (inl feed) = omega (arith, ap length feed)
 some_ending ending (inr return) = omega (arith, ap length return)
 

@@ -12,3 +12,4 @@ pub mod Grammar
 pub mod Numbers
 pub mod Closing
 pub mod Order
+pub mod CutSpelling

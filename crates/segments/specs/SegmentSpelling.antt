@@ -4,7 +4,7 @@ use Rattle.std.specs.Prelude.{◌≡◌, ◌⊎◌, ℕ, ◌+◌, ◌≤◌, Boo
 use Rattle.std.specs.Char.{is_ascii_digit, is_ascii_uppercase}
 use Rattle.std.specs.Int.{is_in_range}
 use Rattle.std.specs.List.{AllPass, join_with_byte, list_all, slice_index_or}
-use Rattle.segments.specs.Views.{Seg}
+use Rattle.segments.specs.Views.{Seg, Left}
 
 -- the separator of the elements, '*' (X12)
 abbrev pub is_star : ℕ → Bool
@@ -49,6 +49,13 @@ pub record SpellsSegment (seg : Seg) : Type 0 where
   pub segment : IsSegment seg.parts
   pub spelled : Spells seg.parts seg.bytes
   pub short : length seg.bytes ≤ 512
+
+-- the segment is spelled at the front of what was left, and the rest stands behind it
+pub record IsFront (seg : Seg) (old new : Left) : Type 0 where
+  pub spelled : SpellsSegment seg
+  pub start : seg.start ≡ old.place
+  pub there : old.rest ≡ seg.bytes ++ new.rest
+  pub place : new.place ≡ old.place + length seg.bytes
 
 -- a text that starts at this place is the spellings of these segments, joined
 abbrev pub SpellsSegments : ℕ → List Seg → List ℕ → Type 0

@@ -1,5 +1,7 @@
-ghost use Rattle.std.specs.Prelude.{◌≡◌, ◌+◌, ◌<◌, ◌≤◌, ◌^◌, drop, length, take};
+ghost use Rattle.std.specs.Prelude.{[], IfOk, IfSome, OnErr, drop, length, take, ◌+◌, ◌<◌, ◌^◌, ◌↔◌, ◌≡◌, ◌≤◌, ◌++◌};
 ghost use Rattle.segments.specs.SegmentCut.{after_body, body_length, first_of, left_after, limited as within_limit, next_of, size_of, text_start};
+ghost use Rattle.segments.specs.SegmentSpelling.{IsFront};
+ghost use Rattle.segments.specs.Views.{Left, Seg};
 
 use crate::segment::{SEGMENT_BYTES, Segment};
 use crate::segment_body::body_at;
@@ -39,6 +41,13 @@ impl<'a> SegmentReader<'a> {
     pub fn next(&mut self) -> Result<Option<Segment<'a>>, SegmentFault>
         ensures answer { result ≡ next_of self.old }
         ensures left { self.new ≡ left_after self.old }
+
+        // What is lent is spelled at the front, and whatever segment is spelled there is lent.
+        ensures spelled { IfOk result (λ some. IfSome some (λ seg. IsFront seg self.old self.new)) }
+        ensures front { (seg : Seg) (behind : Left) → IsFront seg self.old behind → (result ≡ Ok (Some seg)) × (self.new ≡ behind) }
+
+        ensures end { (result ≡ Ok None) ↔ (self.old.rest ≡ []) }
+        ensures stays { OnErr result (self.new ≡ self.old) }
     {
         self.advance()
     }

@@ -1,0 +1,282 @@
+-- What is read is a plain base record, and what is one is read.
+use Rattle.std.proofs.Common.{◌≡◌, ℕ, ◌+◌, ◌≤◌, ◌<◌, ◌&&◌, Bool, true, false, List, [], ◌∷◌, ◌++◌, length, Result, Ok, Err, Some, None, Option, IfOk, refl, sym, ap, ◌∙◌, subst, arith, length-append}
+use Rattle.block_check.specs.Crc16.{crc_from}
+use Rattle.dsd_values.specs.declared.line.Line.{Line}
+use Rattle.dsd_values.specs.declared.limits.TheConstants.{MOST_LINES, SET_BYTES}
+use Rattle.segments.specs.Views.{Seg}
+use Rattle.segments.specs.Kinds.{kind_of, next_phase, is_done}
+use Rattle.segments.specs.SoFar.{SoFar, kept, phase_in}
+use Rattle.segments.specs.Elements.{◌or_else◌}
+use Rattle.segments.specs.Reasons.{course_reason, admission}
+use Rattle.segments.specs.Refusal.{Refusal, refused_at, ended_at, Answers}
+use Rattle.segments.specs.Grammar.{Tail, IsSound, AreApart}
+use Rattle.segments.specs.Closing.{IsClosed}
+use Rattle.segments.specs.SegmentSpelling.{SpellsSegments}
+use Rattle.segments.specs.SegmentCut.{Cut, cut_of}
+use Rattle.segments.specs.declared.segment_fault.SegmentFault.{SegmentFault}
+use Rattle.segments.specs.declared.set_fault.SetFault.{SetFault}
+use Rattle.segments.specs.declared.set_fault.SetFault.TheVariants as errors
+use Rattle.segments.specs.declared.seal.Seal.{Seal}
+use Rattle.segments.specs.declared.stated.StatedTotals.{StatedTotals}
+use Rattle.segments.specs.declared.kind.Kind.{Kind}
+use Rattle.segments.specs.declared.kind.Kind.TheVariants as kinds
+use Rattle.segments.specs.declared.kind.Form.TheVariants as forms
+use Rattle.segments.specs.declared.phase.Phase.{Phase}
+use Rattle.segments.specs.declared.phase.Phase.TheVariants as phases
+use Rattle.segments.proofs.Cutting.{spelled_of-cut, cut_of-spelled}
+use Rattle.segments.proofs.Small.{both_none, none_then, not_when, same_number}
+use Rattle.segments.proofs.Rest.{IsAt}
+use Rattle.segments.proofs.Back.{moves, is_plain}
+use Rattle.segments.proofs.Keeps.{Sound, keeps, at_next, refused_none, none_refused, ended_none, none_ended, done_is, MayStand, may_stand, admitted}
+use Rattle.base_record_894.specs.BaseRecord.{BaseRecord, quantities}
+use Rattle.base_record_894.specs.Grammar.{tail_of, FromStart}
+use Rattle.base_record_894.specs.PlainText.{IsPlain894}
+use Rattle.base_record_894.specs.Said.{Said, nothing, own_reason, reason_of, answer_reason, quantity_reason, kept_by, after, is_whole, has_head}
+use Rattle.base_record_894.specs.FirstRefusal.{refusal_from, said_by, IsReadFrom, record_of, seal_of}
+use Rattle.base_record_894.specs.declared.head.Head.{Head}
+use Rattle.base_record_894.specs.declared.parts.Parts.{Parts}
+use Rattle.base_record_894.proofs.Moves.{Rest894, head_of, back, forth}
+
+record Stands (m : Said) (seg : Seg) : Type 0 where
+  may : MayStand forms.Base m.course.phase (kind_of forms.Base seg) seg
+  right : own_reason m seg (kind_of forms.Base seg) ≡ None
+
+stands : (m : Said) (seg : Seg) → reason_of m seg ≡ None → Stands m seg
+unfolding reason_of
+stands m seg e =
+    let a = both_none _ _ e in
+    let b = both_none _ _ a.1 in
+    record { may = may_stand forms.Base m.course.phase (kind_of forms.Base seg) seg b.0; right = b.1 }
+
+at_after : (m : Said) (before : List Seg) (seg : Seg) → IsAt before m.course → IsAt (before ++ seg ∷ []) (after m seg).course
+unfolding kept_by
+at_after m before seg at = at_next m.course before seg (kind_of forms.Base seg) (phase_in (next_phase m.course.phase (kind_of forms.Base seg) forms.Base)) at
+
+-- ---- the stated quantity, behind the totals
+
+abbrev is_behind : Phase → Bool
+is_behind phases.Signature = true
+is_behind phases.Integrity = true
+is_behind phases.Trailer = true
+is_behind phases.Done = true
+is_behind _ = false
+
+abbrev Sums : SoFar → Type 0
+Sums m = is_behind m.phase ≡ true → m.totals.quantity ≡ quantities m.lines
+
+item_before : (p : Phase) → is_behind (phase_in (next_phase p kinds.Item forms.Base)) ≡ false
+item_before phases.FirstItem = refl
+item_before phases.Items = refl
+item_before _ = refl
+
+-- a segment that is neither an item nor the totals leads behind them only from behind them
+behind_before : (p : Phase) (k : Kind) → is_behind (phase_in (next_phase p k forms.Base)) ≡ true → (k ≡ kinds.Totals → ⊥) → is_behind p ≡ true
+behind_before phases.Signature k e n = refl
+behind_before phases.Integrity k e n = refl
+behind_before phases.Trailer k e n = refl
+behind_before phases.Done k e n = refl
+behind_before phases.References kinds.Totals e n = absurd (n refl)
+behind_before phases.Body kinds.Totals e n = absurd (n refl)
+behind_before phases.Extras kinds.Totals e n = absurd (n refl)
+behind_before phases.Start kinds.Start e n = cc
+behind_before phases.Head kinds.Head e n = cc
+behind_before phases.FirstItem kinds.Item e n = cc
+behind_before phases.Items kinds.Item e n = cc
+behind_before _ _ e n = cc
+
+sums_kept : (k : Kind) (m : Said) (seg : Seg) (count check : ℕ) → own_reason m seg k ≡ None → Sums m.course → Sums (kept_by m seg k (phase_in (next_phase m.course.phase k forms.Base)) count check).course
+unfolding kept kept_by
+sums_kept kinds.Item m seg count check e s = λ b. let no_way : true ≡ false = sym b ∙ item_before m.course.phase in cc
+sums_kept kinds.Totals m seg count check e s = λ b. same_number _ _ (not_when _ _ (both_none _ _ e).1)
+sums_kept kinds.Start m seg count check e s = λ b. s (behind_before m.course.phase kinds.Start b (λ n. cc))
+sums_kept kinds.Head m seg count check e s = λ b. s (behind_before m.course.phase kinds.Head b (λ n. cc))
+sums_kept kinds.Reference m seg count check e s = λ b. s (behind_before m.course.phase kinds.Reference b (λ n. cc))
+sums_kept kinds.LoopStart m seg count check e s = λ b. s (behind_before m.course.phase kinds.LoopStart b (λ n. cc))
+sums_kept kinds.Allowance m seg count check e s = λ b. s (behind_before m.course.phase kinds.Allowance b (λ n. cc))
+sums_kept kinds.LineNote m seg count check e s = λ b. s (behind_before m.course.phase kinds.LineNote b (λ n. cc))
+sums_kept kinds.Note m seg count check e s = λ b. s (behind_before m.course.phase kinds.Note b (λ n. cc))
+sums_kept kinds.LoopEnd m seg count check e s = λ b. s (behind_before m.course.phase kinds.LoopEnd b (λ n. cc))
+sums_kept kinds.Signature m seg count check e s = λ b. s (behind_before m.course.phase kinds.Signature b (λ n. cc))
+sums_kept kinds.Integrity m seg count check e s = λ b. s (behind_before m.course.phase kinds.Integrity b (λ n. cc))
+sums_kept kinds.Trailer m seg count check e s = λ b. s (behind_before m.course.phase kinds.Trailer b (λ n. cc))
+sums_kept kinds.Other m seg count check e s = λ b. s (behind_before m.course.phase kinds.Other b (λ n. cc))
+
+-- ---- what holds all along
+
+own_keeps : (k : Kind) (m : Said) (seg : Seg) (phase : Phase) (count check : ℕ) → own_reason m seg k ≡ None → Sound m.course.lines → Sound (kept_by m seg k phase count check).course.lines
+unfolding kept_by
+own_keeps kinds.Head m seg phase count check e s = keeps kinds.Head m.course seg phase count check refl s
+own_keeps kinds.Totals m seg phase count check e s = keeps kinds.Totals m.course seg phase count check (both_none _ _ e).0 s
+own_keeps k m seg phase count check e s = keeps k m.course seg phase count check e s
+
+-- where the segments end
+abbrev end_of : ℕ → List Seg → ℕ
+end_of place [] = place
+end_of place (seg ∷ segs) = end_of (seg.start + length seg.bytes) segs
+
+whole_end : (segs : List Seg) (m : Said) (place : ℕ) (fault : Option SegmentFault) → refusal_from m place segs fault ≡ None → Sound m.course.lines → Sums m.course → place ≤ SET_BYTES
+    → Sound (said_by m segs).course.lines × Sums (said_by m segs).course × (end_of place segs ≤ SET_BYTES)
+whole_end [] m place fault e s u p = (s, u, p)
+whole_end (seg ∷ segs) m place fault e s u p =
+    let n = refused_none (reason_of m seg) seg.start _ e in
+    let st = stands m seg n.0 in
+    whole_end segs (after m seg) (seg.start + length seg.bytes) fault n.1
+      (own_keeps (kind_of forms.Base seg) m seg (phase_in (next_phase m.course.phase (kind_of forms.Base seg) forms.Base)) (m.course.count + 1) (crc_from m.course.check seg.bytes) st.right s)
+      (sums_kept (kind_of forms.Base seg) m seg (m.course.count + 1) (crc_from m.course.check seg.bytes) st.right u)
+      st.may.short
+
+-- ---- the segments of a text, by their places
+
+end_at : (segs : List Seg) (place : ℕ) (text : List ℕ) → SpellsSegments place segs text → end_of place segs ≡ place + length text
+end_at [] place text e = omega (arith, ap length e)
+end_at (seg ∷ segs) place text (is, start, (rest, joined, more)) =
+    let later = end_at segs (place + length seg.bytes) rest more in
+    let at : seg.start + length seg.bytes ≡ place + length seg.bytes = ap (λ (n : ℕ). n + length seg.bytes) start in
+    ap (λ (n : ℕ). end_of n segs) at ∙ later ∙ omega (arith, ap length joined, length-append seg.bytes rest)
+
+abbrev AreShort : List Seg → Type 0
+AreShort [] = Unit {0}
+AreShort (seg ∷ segs) = (seg.start + length seg.bytes ≤ SET_BYTES) × AreShort segs
+
+are_short : (segs : List Seg) (place : ℕ) (text : List ℕ) → SpellsSegments place segs text → place + length text ≤ SET_BYTES → AreShort segs
+are_short [] place text e h = tt
+are_short (seg ∷ segs) place text (is, start, (rest, joined, more)) h =
+    let long : length text ≡ length seg.bytes + length rest = omega (arith, ap length joined, length-append seg.bytes rest) in
+    let here : place + length seg.bytes + length rest ≤ SET_BYTES = omega arith in
+    (omega arith, are_short segs (place + length seg.bytes) rest more here)
+
+-- ---- what stands to the end is the rest of a record
+
+and_both : (a b : Bool) → (a && b) ≡ true → (a ≡ true) × (b ≡ true)
+and_both true b e = (refl, e)
+and_both false b e = cc
+
+both_and : (a b : Bool) → a ≡ true → b ≡ true → (a && b) ≡ true
+both_and true b p q = q
+both_and false b p q = cc
+
+some_head : (h : Option Head) (head : Head) → Some head ≡ h → has_head h ≡ true
+some_head (Some h) head e = refl
+some_head None head e = cc
+
+abbrev amount_in : Parts → ℕ
+amount_in parts = parts.closed.totals.amount
+
+-- the totals of what was read are those that were stated, where the quantity is the sum
+totals_end : (m : SoFar) (parts : Parts) → IsClosed m parts.closed → m.totals.quantity ≡ quantities m.lines → (tail_of (record_of parts) (seal_of parts) (amount_in parts)).totals ≡ m.totals
+totals_end m parts c sums =
+    let quantity : quantities parts.closed.lines ≡ parts.closed.totals.quantity =
+      ap quantities c.lines ∙ sym sums ∙ ap (λ (u : StatedTotals). u.quantity) (sym c.totals) in
+    ap (λ (n : ℕ). record { quantity = n; amount = parts.closed.totals.amount; deposit = parts.closed.totals.deposit }) quantity ∙ c.totals
+
+found_rest : (segs : List Seg) (m : Said) (before : List Seg) (place : ℕ) (fault : Option SegmentFault) (parts : Parts) → IsAt before m.course → refusal_from m place segs fault ≡ None
+    → IsReadFrom (said_by m segs) parts → Sums (said_by m segs).course
+    → Rest894 m.course.phase m (record_of parts) (seal_of parts) (amount_in parts) before segs
+unfolding kept kept_by
+found_rest [] m before place fault parts at e r u =
+    let whole = and_both _ _ (ended_none _ place fault e).0 in
+    let done = done_is m.course.phase whole.0 in
+    let behind : is_behind m.course.phase ≡ true = ap is_behind (sym done) in
+    subst (λ (p : Phase). Rest894 p m (record_of parts) (seal_of parts) (amount_in parts) before []) done
+      (sym r.head, ((r.closed.lines, r.closed.control), totals_end m.course parts r.closed (u behind), r.closed.signature, r.closed.check, refl))
+found_rest (seg ∷ segs) m before place fault parts at e r u =
+    let n = refused_none (reason_of m seg) seg.start _ e in
+    let st = stands m seg n.0 in
+    let rest = found_rest segs (after m seg) (before ++ seg ∷ []) (seg.start + length seg.bytes) fault parts (at_after m before seg at) n.1 r u in
+    back m (record_of parts) (seal_of parts) (amount_in parts) before seg segs (m.course.count + 1) (crc_from m.course.check seg.bytes) m.course.phase (kind_of forms.Base seg) st.may.plain st.may.moves_on refl st.right at rest
+
+no_fault : (segs : List Seg) (m : Said) (place : ℕ) (fault : Option SegmentFault) → refusal_from m place segs fault ≡ None → fault ≡ None
+no_fault [] m place fault e = (ended_none _ place fault e).1
+no_fault (seg ∷ segs) m place fault e = no_fault segs (after m seg) _ fault (refused_none (reason_of m seg) seg.start _ e).1
+
+-- What is read is a plain base record.
+pub found : (text : List ℕ) (parts : Parts) → refusal_from nothing 0 (cut_of text).segments (cut_of text).fault ≡ None → IsReadFrom (said_by nothing (cut_of text).segments) parts
+    → IsPlain894 (record_of parts) (seal_of parts) (amount_in parts) text
+found text parts e r =
+    let segs = (cut_of text).segments in
+    let whole : SpellsSegments 0 segs text = spelled_of-cut text segs (ap (λ (f : Option SegmentFault). record { segments = segs; fault = f }) (no_fault segs nothing 0 (cut_of text).fault e)) in
+    let none : 0 ≤ MOST_LINES = omega arith in
+    let zero_in : 0 ≤ SET_BYTES = omega arith in
+    let ends = whole_end segs nothing 0 (cut_of text).fault e (tt, none) (λ b. cc) zero_in in
+    let rest = found_rest segs nothing [] 0 (cut_of text).fault parts (refl, refl) e r ends.1 in
+    record {
+      segments = segs;
+      spelled = whole;
+      shape = subst (λ (t : List Line). FromStart t (record_of parts) (seal_of parts) (amount_in parts) [] segs) (sym rest.1) rest.2;
+      sound = record { apart = subst AreApart (sym r.closed.lines) ends.0.0; limit = subst (λ (t : List Line). length t ≤ MOST_LINES) (sym r.closed.lines) ends.0.1 };
+      references = refl;
+      extras = refl;
+      short = omega (arith, end_at segs 0 text whole, ends.2);
+    }
+
+-- ---- what is the rest of a record stands to the end
+
+none_of : (m : Said) (seg : Seg) (kind : Kind) → kind_of forms.Base seg ≡ kind → answer_reason m.course.phase kind seg ≡ None → admission forms.Base m.course.phase kind seg ≡ None → own_reason m seg kind ≡ None → reason_of m seg ≡ None
+unfolding reason_of
+none_of m seg kind k a d o =
+    subst (λ (u : Kind). (answer_reason m.course.phase u seg or_else admission forms.Base m.course.phase u seg or_else own_reason m seg u) ≡ None) (sym k)
+      (none_then _ _ a (none_then _ _ d o))
+
+pub record IsReadSo (m : Said) (b : BaseRecord) (s : Seal) (amount : ℕ) (place : ℕ) (segs : List Seg) : Type 0 where
+  pub none : refusal_from m place segs None ≡ None
+  pub head : Some (head_of b) ≡ (said_by m segs).head
+  pub lines : b.lines ≡ (said_by m segs).course.lines
+  pub control : s.control ≡ (said_by m segs).course.control
+  pub totals : (tail_of b s amount).totals ≡ (said_by m segs).course.totals
+  pub signature : b.signature ≡ (said_by m segs).course.signature
+  pub check : s.check ≡ (said_by m segs).course.integrity
+
+record IsWhole (from : Phase) (m : Said) (b : BaseRecord) (s : Seal) (amount : ℕ) : Type 0 where
+  done : is_done from ≡ true
+  head : Some (head_of b) ≡ m.head
+  lines : b.lines ≡ m.course.lines
+  control : s.control ≡ m.course.control
+  totals : (tail_of b s amount).totals ≡ m.course.totals
+  signature : b.signature ≡ m.course.signature
+  check : s.check ≡ m.course.integrity
+
+at_end : (from : Phase) (m : Said) (b : BaseRecord) (s : Seal) (amount : ℕ) (before : List Seg) → Rest894 from m b s amount before [] → IsWhole from m b s amount
+at_end phases.Start m b s amount before (lines, l, rest) = absurd rest
+at_end phases.Head m b s amount before (lines, l, c, rest) = absurd rest
+at_end phases.References m b s amount before (h, (line ∷ lines, l, c, (label, rest))) = absurd rest
+at_end phases.References m b s amount before (h, ([], l, c, rest)) = absurd rest
+at_end phases.Body m b s amount before (h, (line ∷ lines, l, c, (label, rest))) = absurd rest
+at_end phases.Body m b s amount before (h, ([], l, c, rest)) = absurd rest
+at_end phases.FirstItem m b s amount before (h, (line, lines, l, c, (extras, rest))) = absurd rest
+at_end phases.Items m b s amount before (h, (line ∷ lines, l, c, (extras, rest))) = absurd rest
+at_end phases.Items m b s amount before (h, ([], l, c, rest)) = absurd rest
+at_end phases.Extras m b s amount before (h, (read, rest)) = absurd rest
+at_end phases.Signature m b s amount before (h, (read, totals, rest)) = absurd rest
+at_end phases.Integrity m b s amount before (h, (read, totals, g, rest)) = absurd rest
+at_end phases.Trailer m b s amount before (h, (read, totals, g, i, rest)) = absurd rest
+at_end phases.Done m b s amount before (h, ((l, c), totals, g, i, e)) = record { done = refl; head = h; lines = l; control = c; totals = totals; signature = g; check = i }
+
+not_answer : (p : Phase) (k : Kind) (seg : Seg) → moves (next_phase p k forms.Base) ≡ true → answer_reason p k seg ≡ None
+not_answer phases.Start kinds.Other seg e = cc
+not_answer _ _ seg e = refl
+
+only_rest : (segs : List Seg) (m : Said) (b : BaseRecord) (s : Seal) (amount : ℕ) (before : List Seg) (place : ℕ) → IsSound b.lines → IsAt before m.course → AreShort segs
+    → Rest894 m.course.phase m b s amount before segs → IsReadSo m b s amount place segs
+unfolding kept kept_by
+only_rest [] m b s amount before place sound at short r =
+    let w = at_end m.course.phase m b s amount before r in
+    record { none = none_ended _ place (both_and _ _ w.done (some_head m.head (head_of b) w.head)); head = w.head; lines = w.lines; control = w.control; totals = w.totals; signature = w.signature; check = w.check }
+only_rest (seg ∷ segs) m b s amount before place sound at (here, short) r =
+    let count = m.course.count + 1 in
+    let check = crc_from m.course.check seg.bytes in
+    let n = forth m b s amount before seg segs count check sound at m.course.phase r in
+    let k : kind_of forms.Base seg ≡ n.kind = n.goes.0 in
+    let right : reason_of m seg ≡ None = none_of m seg n.kind k (not_answer m.course.phase n.kind seg n.moves_on)
+      (admitted forms.Base m.course.phase n.kind seg n.moves_on n.plain here) n.goes.1 in
+    let rest : Rest894 (after m seg).course.phase (after m seg) b s amount (before ++ seg ∷ []) segs =
+        subst (λ (kind : Kind). Rest894 (phase_in (next_phase m.course.phase kind forms.Base)) (kept_by m seg kind (phase_in (next_phase m.course.phase kind forms.Base)) count check) b s amount (before ++ seg ∷ []) segs) (sym k) n.goes.2 in
+    let more = only_rest segs (after m seg) b s amount (before ++ seg ∷ []) (seg.start + length seg.bytes) sound (at_after m before seg at) short rest in
+    record { none = none_refused _ seg.start _ right more.none; head = more.head; lines = more.lines; control = more.control; totals = more.totals; signature = more.signature; check = more.check }
+
+-- What is a plain base record is read.
+pub only : (text : List ℕ) (b : BaseRecord) (s : Seal) (amount : ℕ) → IsPlain894 b s amount text → IsReadSo nothing b s amount 0 (cut_of text).segments × ((cut_of text).fault ≡ None)
+only text b s amount is =
+    let cut = cut_of-spelled text is.segments is.spelled in
+    let short : 0 + length text ≤ SET_BYTES = omega (arith, is.short) in
+    let read = only_rest is.segments nothing b s amount [] 0 is.sound (refl, refl) (are_short is.segments 0 text is.spelled short) (b.lines, refl, is.shape) in
+    (subst (λ (c : Cut). IsReadSo nothing b s amount 0 c.segments) (sym cut) read, ap (λ (c : Cut). c.fault) cut)
