@@ -1,5 +1,5 @@
 -- Four upper-case hexadecimal digits, and what `hex` makes of them.
-use Rattle.std.proofs.Common.{◌≡◌, ℕ, ◌+◌, ◌*◌, ◌<◌, ◌≤◌, ◌==◌, Bool, true, false, not, List, [], ◌∷◌, length, get_or, position, Option, Some, None, Result, Ok, Err, refl, sym, ◌∙◌, ap, arith}
+use Rattle.std.proofs.Common.{◌≡◌, ℕ, ◌+◌, ◌*◌, ◌<◌, ◌≤◌, Bool, false, List, [], ◌∷◌, length, get_or, position, Some, None, Result, Ok, Err, refl, arith}
 use Rattle.std.specs.Prelude.{MatchResult}
 use Rattle.std.specs.Char.{digit_value}
 use Rattle.std.specs.Int.{w16, from_be_bytes}

@@ -1,2 +1,6 @@
 pub mod Digits
 pub mod Hexadecimal
+pub mod Refusals
+pub mod Points
+pub mod Dates
+pub mod Laws

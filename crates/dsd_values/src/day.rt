@@ -1,7 +1,8 @@
 //! Days of the calendar.
 
-ghost use Rattle.std.specs.Prelude.{◌≡◌, ◌≤◌, IsTrue};
-ghost use Rattle.dsd_values.specs.Calendar.{date_at, day_of, is_date};
+ghost use Rattle.std.specs.Prelude.{◌≡◌, ◌↔◌, ◌≤◌, IsTrue, Ok};
+ghost use Rattle.dsd_values.specs.Calendar.{Date as Seen, date_at, day_of, is_date};
+ghost use Rattle.dsd_values.specs.Spelling.{SpellsDay};
 
 use crate::fault::ValueFault;
 use crate::number::digits;
@@ -65,6 +66,7 @@ impl Day {
 /// The day that eight digits write: four of the year, two of the month and two of the day.
 pub fn read_day(text: &[u8]) -> Result<Day, ValueFault>
     ensures exact { result ≡ day_of text.now }
+    ensures spelled { (day : Seen) → (result ≡ Ok day ↔ SpellsDay day text.now) }
 {
     if text.is_empty() {
         return Err(ValueFault::Empty);
