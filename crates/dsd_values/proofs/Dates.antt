@@ -1,8 +1,10 @@
 -- Eight digits as a day.
-use Rattle.std.proofs.Common.{◌≡◌, ◌∙◌, ◌&&◌, ℕ, ◌+◌, ◌*◌, ◌/◌, ◌%◌, ◌<◌, ◌≤◌, nat_le, Bool, true, false, List, [], ◌∷◌, length, take, drop, position, Ok, Err, pos, refl, sym, ap, arith}
+use Rattle.std.proofs.Common.{◌≡◌, ◌∙◌, ◌&&◌, ℕ, ℤ, ◌+◌, ◌*◌, ◌/◌, ◌%◌, ◌<◌, ◌≤◌, nat_le, Bool, true, false, List, [], ◌∷◌, ◌++◌, length, take, drop, position, Ok, Err, pos, refl, sym, ap, arith}
 use Rattle.std.specs.Char.{IsAsciiDigit, digit_value}
 use Rattle.std.specs.List.{All}
 use Rattle.std.specs.Str.Parse.{digits_value}
+use Rattle.std.proofs.lemmas.List.Elements.{All-nil, All-cons}
+use Rattle.dsd_values.specs.Writing.{two_digits, day_text}
 use Rattle.std.proofs.lemmas.Bool.{and_parts}
 use Rattle.std.proofs.lemmas.Bool.Decides.{nat_tests}
 use Rattle.std.specs.Prelude.{if◌then◌else◌}
@@ -119,3 +121,56 @@ day_spelled text date s =
     filled_gives Date 8 (position is_no_digit text) text (complete 8 text (date_numbered (digits_value 10 text))) (omega arith) (omega arith) (none_outside is_no_digit IsAsciiDigit digit_fails text s.digits)
     ∙ complete_gives Date 8 text (date_numbered (digits_value 10 text)) (omega arith)
     ∙ value
+
+-- ---- a day as it is written
+
+few_days : (y : ℤ) (m : ℕ) → days_in_month y m ≤ 31
+few_days y m = grind (arith, nat_tests)
+
+glyph_digit : (d : ℕ) → d < 10 → IsAsciiDigit (48 + d) × (digit_value (48 + d) ≡ d)
+glyph_digit d small = ((grind (arith, nat_tests), grind (arith, nat_tests)), grind (arith, nat_tests))
+
+two_all : (n : ℕ) (rest : List ℕ) → n < 100 → All IsAsciiDigit rest → All IsAsciiDigit (two_digits n ++ rest)
+two_all n rest small all =
+    let high : n / 10 < 10 = omega arith in
+    let low : n % 10 < 10 = omega arith in
+    All-cons IsAsciiDigit (48 + n / 10) ((48 + n % 10) ∷ rest) ((glyph_digit (n / 10) high).0)
+    (All-cons IsAsciiDigit (48 + n % 10) rest ((glyph_digit (n % 10) low).0) all)
+
+two_value : (n : ℕ) → n < 100 → digits_value 10 (two_digits n) ≡ n
+two_value n small =
+    let high : n / 10 < 10 = omega arith in
+    let low : n % 10 < 10 = omega arith in
+    sym (two (48 + n / 10) (48 + n % 10))
+    ∙ ap (λ x. x * 10 + digit_value (48 + n % 10)) ((glyph_digit (n / 10) high).1)
+    ∙ ap (λ x. n / 10 * 10 + x) ((glyph_digit (n % 10) low).1)
+    ∙ omega arith
+
+four_value : (a b : ℕ) → digits_value 10 (two_digits a ++ two_digits b) ≡ digits_value 10 (two_digits a) * 100 + digits_value 10 (two_digits b)
+four_value a b = omega arith
+
+pub day_spells : (date : Date) → is_date date.year date.month date.day ≡ true → SpellsDay date (day_text date)
+day_spells date h =
+    let there = date_there date.year date.month date.day h in
+    let year : date.year ≤ 9999 = omega (arith, ints, there.0.1) in
+    let month : date.month < 100 = omega (arith, ints, there.1.1) in
+    let few = few_days (pos date.year) date.month in
+    let day : date.day < 100 = omega (arith, ints, there.2.1) in
+    let century : date.year / 100 < 100 = omega arith in
+    let rest : date.year % 100 < 100 = omega arith in
+    record {
+      digits = two_all (date.year / 100) (two_digits (date.year % 100) ++ two_digits date.month ++ two_digits date.day ++ []) century
+          (two_all (date.year % 100) (two_digits date.month ++ two_digits date.day ++ []) rest
+          (two_all date.month (two_digits date.day ++ []) month (two_all date.day [] day (All-nil IsAsciiDigit))));
+      eight = refl;
+      year = four_value (date.year / 100) (date.year % 100)
+          ∙ ap (λ x. x * 100 + digits_value 10 (two_digits (date.year % 100))) (two_value (date.year / 100) century)
+          ∙ ap (λ x. date.year / 100 * 100 + x) (two_value (date.year % 100) rest)
+          ∙ omega arith;
+      month = two_value date.month month;
+      day = two_value date.day day;
+      there = there;
+    }
+
+pub day_read_back : (date : Date) (text : List ℕ) → text ≡ day_text date → is_date date.year date.month date.day ≡ true → day_of text ≡ Ok date
+day_read_back date text is h = ap day_of is ∙ day_spelled (day_text date) date (day_spells date h)

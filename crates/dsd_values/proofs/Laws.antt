@@ -1,28 +1,22 @@
 -- A text is read as a value exactly where it spells the value.
-use Rattle.std.proofs.Common.{◌≡◌, ◌≢◌, ◌∙◌, ◌⊎◌, ℕ, ◌^◌, ◌<◌, ◌≤◌, false, List, [], ◌∷◌, length, position, Result, Ok, refl, sym, ap, inl, inr, arith}
+use Rattle.std.proofs.Common.{◌≡◌, ◌∙◌, ℕ, ◌^◌, ◌<◌, ◌≤◌, false, List, [], ◌∷◌, length, position, Result, Ok, refl, sym, ap, inl, inr, arith}
 use Rattle.std.specs.Prelude.{◌↔◌}
-use Rattle.std.specs.Char.{IsAsciiDigit, IsAsciiUppercase}
-use Rattle.std.specs.Int.{IsInRange}
+use Rattle.std.specs.Char.{IsAsciiDigit}
 use Rattle.std.specs.List.{All}
 use Rattle.std.specs.Str.Parse.{AllDigits, digits_value}
 use Rattle.std.proofs.lemmas.Int.Digits.{digits_value-lt}
 use Rattle.std.proofs.lemmas.List.Elements.{All-head, All-tail}
 use Rattle.std.proofs.lemmas.Bool.Decides.{nat_tests}
-use Rattle.dsd_values.specs.Reading.{is_no_digit, is_no_element_byte, is_no_number_byte, is_no_id_byte, is_no_check_byte, within, complete, filled, number_of, plain_number_of, decimal_of, filled_word_of, word_of, word_between, delivery_number_of, comm_id_of, check_of}
-use Rattle.dsd_values.specs.Spelling.{SpellsNumber, SpellsPlainNumber, SpellsDecimal, SpellsFilledWord, SpellsWord, SpellsWordBetween, SpellsDeliveryNumber, SpellsCommId, SpellsCheck, IsElementCharacter}
+use Rattle.dsd_values.specs.Reading.{is_no_digit, is_no_element_byte, is_no_number_byte, is_no_id_byte, within, complete, filled, number_of, plain_number_of, decimal_of, filled_word_of, word_of, word_between, delivery_number_of, comm_id_of, check_of}
+use Rattle.dsd_values.specs.Spelling.{SpellsNumber, SpellsPlainNumber, SpellsDecimal, SpellsFilledWord, SpellsWord, SpellsWordBetween, SpellsDeliveryNumber, SpellsCommId, SpellsCheck, IsElementCharacter, IsNumberCharacter, IsIdCharacter}
 use Rattle.dsd_values.specs.declared.fault.ValueFault.{ValueFault}
 use Rattle.dsd_values.proofs.Digits.{below_fifteen, digit_low, digit_passes, digit_fails}
 use Rattle.dsd_values.specs.Calendar.{Date, day_of}
 use Rattle.dsd_values.specs.Spelling.{SpellsDay}
 use Rattle.dsd_values.proofs.Dates.{day_read, day_spelled}
+use Rattle.dsd_values.proofs.Hexadecimal.{check_read, check_spelled}
 use Rattle.dsd_values.proofs.Points.{decimal_read, decimal_spelled}
-use Rattle.dsd_values.proofs.Refusals.{filled_ok, filled_gives, bounded_ok, bounded_gives, complete_ok, complete_gives, within_ok, within_gives, all_pass, none_outside}
-
-abbrev read_as : {V : Type 0} → V → Result V ValueFault
-read_as x = Ok x
-
-ok_is : (V : Type 0) (x y : V) → read_as x ≡ Ok y → x ≡ y
-ok_is V x y e = cc
+use Rattle.dsd_values.proofs.Refusals.{filled_ok, filled_gives, bounded_ok, bounded_gives, complete_ok, complete_gives, within_ok, within_gives, all_pass, none_outside, ok_is}
 
 -- ---- what each test says of a byte
 
@@ -124,20 +118,20 @@ filled_is (b ∷ bs) = ap (λ value. filled 35 (position is_no_element_byte (b �
 pub filled_word_of_spelled : (text : List ℕ) (answer : Result (List ℕ) ValueFault) → answer ≡ filled_word_of text → (word : List ℕ) → (answer ≡ Ok word) ↔ SpellsFilledWord word text
 filled_word_of_spelled text answer is word = word_between_spelled 1 35 text answer (is ∙ filled_is text) word
 
-delivery_passes : (b : ℕ) → is_no_number_byte b ≡ false → IsElementCharacter b × (b ≢ 32)
+delivery_passes : (b : ℕ) → is_no_number_byte b ≡ false → IsNumberCharacter b
 delivery_passes b h = (((grind (arith, nat_tests), grind (arith, nat_tests)), grind (arith, nat_tests)), grind (arith, nat_tests))
 
-delivery_fails : (b : ℕ) → IsElementCharacter b × (b ≢ 32) → is_no_number_byte b ≡ false
+delivery_fails : (b : ℕ) → IsNumberCharacter b → is_no_number_byte b ≡ false
 delivery_fails b h = grind (arith, nat_tests)
 
 delivery_read : (text number : List ℕ) → delivery_number_of text ≡ Ok number → SpellsDeliveryNumber number text
 delivery_read text number e =
     let h = filled_ok (List ℕ) 22 (position is_no_number_byte text) text (Ok text) number e in
-    record { same = ok_is (List ℕ) text number h.is; characters = all_pass is_no_number_byte (λ b. IsElementCharacter b × (b ≢ 32)) delivery_passes text h.none; filled = h.some; short = h.short }
+    record { same = ok_is (List ℕ) text number h.is; characters = all_pass is_no_number_byte IsNumberCharacter delivery_passes text h.none; filled = h.some; short = h.short }
 
 delivery_spelled : (text number : List ℕ) → SpellsDeliveryNumber number text → delivery_number_of text ≡ Ok number
 delivery_spelled text number s =
-    filled_gives (List ℕ) 22 (position is_no_number_byte text) text (Ok text) s.filled s.short (none_outside is_no_number_byte (λ b. IsElementCharacter b × (b ≢ 32)) delivery_fails text s.characters)
+    filled_gives (List ℕ) 22 (position is_no_number_byte text) text (Ok text) s.filled s.short (none_outside is_no_number_byte IsNumberCharacter delivery_fails text s.characters)
     ∙ ap Ok s.same
 
 pub delivery_number_of_spelled : (text : List ℕ) (answer : Result (List ℕ) ValueFault) → answer ≡ delivery_number_of text → (number : List ℕ) → (answer ≡ Ok number) ↔ SpellsDeliveryNumber number text
@@ -145,10 +139,10 @@ delivery_number_of_spelled text answer is number = rw is (delivery_read text num
 
 -- ---- ids and checks
 
-id_passes : (b : ℕ) → is_no_id_byte b ≡ false → IsAsciiUppercase b ⊎ IsAsciiDigit b
+id_passes : (b : ℕ) → is_no_id_byte b ≡ false → IsIdCharacter b
 id_passes b h = grind (arith, nat_tests)
 
-id_fails : (b : ℕ) → IsAsciiUppercase b ⊎ IsAsciiDigit b → is_no_id_byte b ≡ false
+id_fails : (b : ℕ) → IsIdCharacter b → is_no_id_byte b ≡ false
 id_fails b (inl h) = grind (arith, nat_tests)
 id_fails b (inr h) = grind (arith, nat_tests)
 
@@ -157,36 +151,16 @@ id_read text id e =
     let h = filled_ok (List ℕ) 10 (position is_no_id_byte text) text (complete 10 text (Ok text)) id e in
     let c = complete_ok (List ℕ) 10 text (Ok text) id h.is in
     let most = h.short in
-    record { same = ok_is (List ℕ) text id c.1; characters = all_pass is_no_id_byte (λ b. IsAsciiUppercase b ⊎ IsAsciiDigit b) id_passes text h.none; ten = omega arith }
+    record { same = ok_is (List ℕ) text id c.1; characters = all_pass is_no_id_byte IsIdCharacter id_passes text h.none; ten = omega arith }
 
 id_spelled : (text id : List ℕ) → SpellsCommId id text → comm_id_of text ≡ Ok id
 id_spelled text id s =
-    filled_gives (List ℕ) 10 (position is_no_id_byte text) text (complete 10 text (Ok text)) (omega arith) (omega arith) (none_outside is_no_id_byte (λ b. IsAsciiUppercase b ⊎ IsAsciiDigit b) id_fails text s.characters)
+    filled_gives (List ℕ) 10 (position is_no_id_byte text) text (complete 10 text (Ok text)) (omega arith) (omega arith) (none_outside is_no_id_byte IsIdCharacter id_fails text s.characters)
     ∙ complete_gives (List ℕ) 10 text (Ok text) (omega arith)
     ∙ ap Ok s.same
 
 pub comm_id_of_spelled : (text : List ℕ) (answer : Result (List ℕ) ValueFault) → answer ≡ comm_id_of text → (id : List ℕ) → (answer ≡ Ok id) ↔ SpellsCommId id text
 comm_id_of_spelled text answer is id = rw is (id_read text id, id_spelled text id)
-
-check_passes : (b : ℕ) → is_no_check_byte b ≡ false → IsAsciiDigit b ⊎ IsInRange 65 70 b
-check_passes b h = grind (arith, nat_tests)
-
-check_fails : (b : ℕ) → IsAsciiDigit b ⊎ IsInRange 65 70 b → is_no_check_byte b ≡ false
-check_fails b (inl h) = grind (arith, nat_tests)
-check_fails b (inr h) = grind (arith, nat_tests)
-
-check_read : (text : List ℕ) (n : ℕ) → check_of text ≡ Ok n → SpellsCheck n text
-check_read text n e =
-    let h = filled_ok ℕ 4 (position is_no_check_byte text) text (complete 4 text (Ok (digits_value 16 text))) n e in
-    let c = complete_ok ℕ 4 text (Ok (digits_value 16 text)) n h.is in
-    let most = h.short in
-    record { digits = all_pass is_no_check_byte (λ b. IsAsciiDigit b ⊎ IsInRange 65 70 b) check_passes text h.none; four = omega arith; value = ok_is ℕ (digits_value 16 text) n c.1 }
-
-check_spelled : (text : List ℕ) (n : ℕ) → SpellsCheck n text → check_of text ≡ Ok n
-check_spelled text n s =
-    filled_gives ℕ 4 (position is_no_check_byte text) text (complete 4 text (Ok (digits_value 16 text))) (omega arith) (omega arith) (none_outside is_no_check_byte (λ b. IsAsciiDigit b ⊎ IsInRange 65 70 b) check_fails text s.digits)
-    ∙ complete_gives ℕ 4 text (Ok (digits_value 16 text)) (omega arith)
-    ∙ ap Ok s.value
 
 pub check_of_spelled : (text : List ℕ) (answer : Result ℕ ValueFault) → answer ≡ check_of text → (n : ℕ) → (answer ≡ Ok n) ↔ SpellsCheck n text
 check_of_spelled text answer is n = rw is (check_read text n, check_spelled text n)

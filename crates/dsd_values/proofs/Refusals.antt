@@ -38,6 +38,12 @@ within_ok low high n v e = (grind (arith, nat_tests), grind (arith, nat_tests), 
 pub within_gives : (low high n v : ℕ) → n ≡ v → low ≤ v → v ≤ high → within low high n ≡ Ok v
 within_gives low high n v same least most = rw same (grind (arith, nat_tests))
 
+abbrev pub read_as : {V : Type 0} → V → Result V ValueFault
+read_as x = Ok x
+
+pub ok_is : (V : Type 0) (x y : V) → read_as x ≡ Ok y → x ≡ y
+ok_is V x y e = cc
+
 -- a test by its place, and the fact for each byte
 module _ (p : ℕ → Bool) (P : ℕ → Type 0) where
   none_all : (text : List ℕ) → position p text ≡ None → length text ≤ position_or_len p text

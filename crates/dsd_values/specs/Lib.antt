@@ -2,3 +2,4 @@ pub mod Answers
 pub mod Reading
 pub mod Calendar
 pub mod Spelling
+pub mod Writing

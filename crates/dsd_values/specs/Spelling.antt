@@ -97,24 +97,36 @@ pub record SpellsWordBetween (least most : ℕ) (word text : List ℕ) : Type 0 
 abbrev pub SpellsFilledWord : List ℕ → List ℕ → Type 0
 SpellsFilledWord word text = SpellsWordBetween 1 WORD_BYTES word text
 
+-- the same other than a space
+abbrev pub IsNumberCharacter : ℕ → Type 0
+IsNumberCharacter b = IsElementCharacter b × (b ≢ 32)
+
 -- a delivery number is its own text: 1 to 22 element characters, none of them a space
 pub record SpellsDeliveryNumber (number text : List ℕ) : Type 0 where
   pub same : text ≡ number
-  pub characters : All (λ b. IsElementCharacter b × (b ≢ 32)) text
+  pub characters : All IsNumberCharacter text
   pub filled : 0 < length text
   pub short : length text ≤ 22
+
+-- a letter 'A' to 'Z' or a digit
+abbrev pub IsIdCharacter : ℕ → Type 0
+IsIdCharacter b = IsAsciiUppercase b ⊎ IsAsciiDigit b
 
 -- a communication id is its own text: ten letters 'A' to 'Z' and digits
 pub record SpellsCommId (id text : List ℕ) : Type 0 where
   pub same : text ≡ id
-  pub characters : All (λ b. IsAsciiUppercase b ⊎ IsAsciiDigit b) text
+  pub characters : All IsIdCharacter text
   pub ten : length text ≡ 10
 
 -- ---- checks and days
 
+-- a hexadecimal digit, '0' to '9' or 'A' to 'F'
+abbrev pub IsCheckDigit : ℕ → Type 0
+IsCheckDigit b = IsAsciiDigit b ⊎ IsInRange 65 70 b
+
 -- four hexadecimal digits with upper-case letters
 pub record SpellsCheck (check : ℕ) (text : List ℕ) : Type 0 where
-  pub digits : All (λ b. IsAsciiDigit b ⊎ IsInRange 65 70 b) text
+  pub digits : All IsCheckDigit text
   pub four : length text ≡ 4
   pub value : digits_value 16 text ≡ check
 

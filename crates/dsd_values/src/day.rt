@@ -1,6 +1,7 @@
 //! Days of the calendar.
 
 ghost use Rattle.std.specs.Prelude.{◌≡◌, ◌↔◌, ◌≤◌, IsTrue, Ok};
+ghost use Rattle.std.specs.Int.{IsInRange};
 ghost use Rattle.dsd_values.specs.Calendar.{Date as Seen, date_at, day_of, is_date};
 ghost use Rattle.dsd_values.specs.Spelling.{SpellsDay};
 
@@ -43,6 +44,7 @@ impl Day {
 
     pub fn year(self) -> u16
         ensures value { result ≡ self.year }
+        ensures within { result ≤ 9999 }
         ensures there { IsTrue (is_date self.year self.month self.day) }
     {
         self.year
@@ -50,6 +52,7 @@ impl Day {
 
     pub fn month(self) -> u8
         ensures value { result ≡ self.month }
+        ensures within { IsInRange 1 12 result }
         ensures there { IsTrue (is_date self.year self.month self.day) }
     {
         self.month
@@ -57,6 +60,7 @@ impl Day {
 
     pub fn day(self) -> u8
         ensures value { result ≡ self.day }
+        ensures within { IsInRange 1 31 result }
         ensures there { IsTrue (is_date self.year self.month self.day) }
     {
         self.day

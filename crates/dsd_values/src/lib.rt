@@ -25,6 +25,7 @@ mod role;
 mod set_text;
 mod signature;
 mod word;
+mod writers;
 
 pub use allowance::Allowance;
 pub use cents::{Cents, read_cents};
@@ -48,3 +49,7 @@ pub use role::{Role, read_role};
 pub use set_text::SetText;
 pub use signature::Signature;
 pub use word::{Word, read_filled_word, read_word, read_word_between};
+pub use writers::{
+    write_cents, write_check, write_cost, write_day, write_dsd, write_level, write_percent,
+    write_quantity, write_total_quantity,
+};
