@@ -9,7 +9,7 @@ use crate::fault::ValueFault;
 use std::marker::Model;
 
 /// How many digits a check has.
-pub const CHECK_BYTES: usize = 4;
+const CHECK_BYTES: usize = 4;
 
 /// The integrity value of a set.
 #[derive(Clone, Copy, Debug, PartialEq, Eq, PartialOrd, Ord)]

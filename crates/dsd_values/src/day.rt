@@ -11,7 +11,7 @@ use jiff::civil::Date;
 use std::marker::Model;
 
 /// How many digits a day has.
-pub const DAY_BYTES: usize = 8;
+const DAY_BYTES: usize = 8;
 
 /// A day of the Gregorian calendar, in the years 0 to 9999.
 #[derive(Clone, Copy, Debug, PartialEq, Eq)]

@@ -14,7 +14,7 @@ pub const DELIVERY_NUMBER_BYTES: usize = 22;
 /// The text that names a delivery: 1 to 22 element characters without a space.
 #[derive(Debug, Drop)]
 pub struct DeliveryNumber {
-    text: ArrayVec<u8, 22>,
+    text: ArrayVec<u8, DELIVERY_NUMBER_BYTES>,
 }
 
 impl Model for DeliveryNumber {

@@ -7,7 +7,7 @@ ghost use Rattle.dsd_values.specs.Spelling.{SpellsNumber, SpellsPlainNumber};
 use crate::fault::ValueFault;
 
 /// The most bytes of a number's text.
-pub const NUMBER_BYTES: usize = 15;
+pub(crate) const NUMBER_BYTES: usize = 15;
 
 /// The number that 1 to 15 digits write. Leading zeros are read.
 pub fn read_number(text: &[u8]) -> Result<u64, ValueFault>

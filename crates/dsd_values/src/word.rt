@@ -12,7 +12,7 @@ use std::marker::Model;
 /// A text of at most 35 element characters: 20 to 7E hexadecimal other than `*`.
 #[derive(Debug, Drop)]
 pub struct Word {
-    text: ArrayVec<u8, 35>,
+    text: ArrayVec<u8, WORD_BYTES>,
 }
 
 impl Model for Word {

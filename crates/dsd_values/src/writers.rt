@@ -19,6 +19,7 @@ use crate::percent::{PERCENT_DECIMALS, Percent};
 use crate::quantity::{MOST_TOTAL_QUANTITY, Quantity};
 use arrayvec::ArrayVec;
 
+/// The cents in digits.
 pub fn write_cents(value: Cents) -> ArrayVec<u8, 24>
     ensures text { result.items ≡ number_text value }
     ensures read_back { cents_of result.items ≡ Ok value }
@@ -26,6 +27,7 @@ pub fn write_cents(value: Cents) -> ArrayVec<u8, 24>
     write_number(value.get())
 }
 
+/// The quantity of a line in digits.
 pub fn write_quantity(value: Quantity) -> ArrayVec<u8, 24>
     ensures text { result.items ≡ number_text value }
     ensures read_back { quantity_of result.items ≡ Ok value }
@@ -33,6 +35,7 @@ pub fn write_quantity(value: Quantity) -> ArrayVec<u8, 24>
     write_number(u64::from(value.get()))
 }
 
+/// The quantity of a whole delivery in digits.
 pub fn write_total_quantity(value: u32) -> ArrayVec<u8, 24>
     requires { value ≤ MOST_TOTAL_QUANTITY }
     ensures text { result.items ≡ number_text value }
@@ -41,6 +44,7 @@ pub fn write_total_quantity(value: u32) -> ArrayVec<u8, 24>
     write_number(u64::from(value))
 }
 
+/// The cost in units of money, with up to four decimals.
 pub fn write_cost(value: Cost) -> ArrayVec<u8, 24>
     ensures text { result.items ≡ cost_text value }
     ensures read_back { cost_of result.items ≡ Ok value }
@@ -48,6 +52,7 @@ pub fn write_cost(value: Cost) -> ArrayVec<u8, 24>
     write_decimal(value.get(), COST_DECIMALS)
 }
 
+/// The percent, with up to two decimals.
 pub fn write_percent(value: Percent) -> ArrayVec<u8, 24>
     ensures text { result.items ≡ percent_text value }
     ensures read_back { percent_of result.items ≡ Ok value }
@@ -55,6 +60,7 @@ pub fn write_percent(value: Percent) -> ArrayVec<u8, 24>
     write_decimal(u64::from(value.get()), PERCENT_DECIMALS)
 }
 
+/// The level in digits.
 pub fn write_level(value: Level) -> ArrayVec<u8, 24>
     ensures text { result.items ≡ number_text value }
     ensures read_back { level_of result.items ≡ Ok value }
@@ -62,6 +68,7 @@ pub fn write_level(value: Level) -> ArrayVec<u8, 24>
     write_number(u64::from(value.get()))
 }
 
+/// The line's number in digits.
 pub fn write_dsd(value: DsdNumber) -> ArrayVec<u8, 24>
     ensures text { result.items ≡ number_text value }
     ensures read_back { dsd_of result.items ≡ Ok value }
@@ -69,6 +76,7 @@ pub fn write_dsd(value: DsdNumber) -> ArrayVec<u8, 24>
     write_number(u64::from(value.get()))
 }
 
+/// Four digits, with upper-case letters.
 pub fn write_check(value: Check) -> ArrayVec<u8, 24>
     ensures text { result.items ≡ check_text value }
     ensures read_back { check_of result.items ≡ Ok value }
@@ -81,6 +89,7 @@ pub fn write_check(value: Check) -> ArrayVec<u8, 24>
     text
 }
 
+/// Eight digits: the year, the month and the day.
 pub fn write_day(value: Day) -> ArrayVec<u8, 24>
     ensures text { result.items ≡ day_text value }
     ensures read_back { day_of result.items ≡ Ok value }
