@@ -1,7 +1,7 @@
 -- Texts of digits, and their numbers.
-use Rattle.std.proofs.Common.{◌≡◌, ℕ, ◌+◌, ◌-◌, ◌*◌, ◌^◌, ◌<◌, ◌≤◌, Bool, true, false, List, length, get_or, take, position, Some, None, suc, add-one, lit<, sym, ◌∙◌, ap, inl, inr, arith}
-use Rattle.std.proofs.Math.Nat.{pow-suc, pow-le-pow_right, mul-le-mul}
-use Rattle.std.specs.Char.{digit_value, is_ascii_digit}
+use Rattle.std.proofs.Common.{◌≡◌, ℕ, ◌+◌, ◌-◌, ◌*◌, ◌^◌, ◌<◌, ◌≤◌, Bool, true, false, List, length, get_or, take, position, Some, suc, add-one, lit<, sym, ◌∙◌, ap, inl, inr, arith}
+use Rattle.std.proofs.Math.Nat.{pow-suc, pow-le-pow_right}
+use Rattle.std.specs.Char.{IsAsciiDigit, digit_value, is_ascii_digit}
 use Rattle.std.specs.List.{position_or_len}
 use Rattle.std.proofs.lemmas.Bool.{cases_lt, false≢true}
 use Rattle.std.proofs.lemmas.Bool.Decides.{nat_tests}
@@ -66,3 +66,14 @@ next_digit text n v i here short is_digit is value under digits =
       digits = first_after is_no_digit text i here digits d.3;
       small = both.1;
     }
+
+-- ---- the test of a digit, and the fact
+
+pub digit_passes : (b : ℕ) → is_no_digit b ≡ false → IsAsciiDigit b
+digit_passes b h = (grind (arith, nat_tests), grind (arith, nat_tests))
+
+pub digit_fails : (b : ℕ) → IsAsciiDigit b → is_no_digit b ≡ false
+digit_fails b h = grind (arith, nat_tests)
+
+pub digit_low : (b : ℕ) → IsAsciiDigit b → digit_value b < 10
+digit_low b h = grind (arith, nat_tests)

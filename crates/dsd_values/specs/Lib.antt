@@ -1,3 +1,5 @@
 pub mod Answers
 pub mod Reading
 pub mod Calendar
+pub mod Spelling
+pub mod Writing

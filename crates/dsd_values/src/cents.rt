@@ -1,10 +1,11 @@
 //! Amounts of money.
 
-ghost use Rattle.std.specs.Prelude.{◌≡◌, ◌≤◌};
+ghost use Rattle.std.specs.Prelude.{◌≡◌, ◌↔◌, ◌≤◌, ℕ, Ok};
 ghost use Rattle.dsd_values.specs.Reading.{cents_of};
+ghost use Rattle.dsd_values.specs.Spelling.{SpellsCents};
 
 use crate::fault::ValueFault;
-use crate::number::read_number;
+use crate::number::number_within;
 use std::marker::Model;
 
 /// An amount of money in cents.
@@ -47,10 +48,8 @@ impl Cents {
 /// The cents that 1 to 15 digits write.
 pub fn read_cents(text: &[u8]) -> Result<Cents, ValueFault>
     ensures exact { result ≡ cents_of text.now }
+    ensures spelled { (cents : ℕ) → (result ≡ Ok cents ↔ SpellsCents cents text.now) }
 {
-    let number = read_number(text)?;
-    if number > Cents::MAX {
-        return Err(ValueFault::OutOfRange);
-    }
+    let number = number_within(text, 0, Cents::MAX)?;
     Ok(Cents::new(number))
 }

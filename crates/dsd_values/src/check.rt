@@ -1,14 +1,15 @@
 //! Integrity values, written as four hexadecimal digits.
 
-ghost use Rattle.std.specs.Prelude.{◌≡◌, ◌<◌, ◌≤◌, ◌^◌, length, not, position, None};
+ghost use Rattle.std.specs.Prelude.{◌≡◌, ◌↔◌, ℕ, length, not, position, None, Ok};
 ghost use Rattle.std.specs.Str.Parse.{digits_value};
 ghost use Rattle.dsd_values.specs.Reading.{check_of, is_no_check_byte};
+ghost use Rattle.dsd_values.specs.Spelling.{SpellsCheck};
 
 use crate::fault::ValueFault;
 use std::marker::Model;
 
 /// How many digits a check has.
-pub const CHECK_BYTES: usize = 4;
+const CHECK_BYTES: usize = 4;
 
 /// The integrity value of a set.
 #[derive(Clone, Copy, Debug, PartialEq, Eq, PartialOrd, Ord)]
@@ -45,6 +46,7 @@ impl Check {
 /// The check that four digits write, `0` to `9` and `A` to `F` alone.
 pub fn read_check(text: &[u8]) -> Result<Check, ValueFault>
     ensures exact { result ≡ check_of text.now }
+    ensures spelled { (check : ℕ) → (result ≡ Ok check ↔ SpellsCheck check text.now) }
 {
     if text.is_empty() {
         return Err(ValueFault::Empty);

@@ -1,7 +1,8 @@
 //! Communication ids.
 
-ghost use Rattle.std.specs.Prelude.{◌≡◌, position, None};
+ghost use Rattle.std.specs.Prelude.{◌≡◌, ◌↔◌, ℕ, List, Ok, position};
 ghost use Rattle.dsd_values.specs.Reading.{IsIdText, comm_id_of, is_no_id_byte};
+ghost use Rattle.dsd_values.specs.Spelling.{SpellsCommId};
 
 use crate::fault::ValueFault;
 use std::marker::Model;
@@ -47,6 +48,7 @@ impl CommId {
 /// The communication id that ten characters write.
 pub fn read_comm_id(text: &[u8]) -> Result<CommId, ValueFault>
     ensures exact { result ≡ comm_id_of text.now }
+    ensures spelled { (id : List ℕ) → (result ≡ Ok id ↔ SpellsCommId id text.now) }
 {
     if text.is_empty() {
         return Err(ValueFault::Empty);

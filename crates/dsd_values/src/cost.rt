@@ -1,9 +1,10 @@
 //! Costs of a unit.
 
-ghost use Rattle.std.specs.Prelude.{◌≡◌, ◌≤◌};
+ghost use Rattle.std.specs.Prelude.{◌≡◌, ◌↔◌, ◌≤◌, ℕ, Ok};
 ghost use Rattle.dsd_values.specs.Reading.{cost_of};
+ghost use Rattle.dsd_values.specs.Spelling.{SpellsCost};
 
-use crate::decimal::read_decimal;
+use crate::decimal::decimal_within;
 use crate::fault::ValueFault;
 use std::marker::Model;
 
@@ -50,10 +51,8 @@ pub const COST_DECIMALS: u32 = 4;
 /// The cost that digits write, with a point and up to four decimals where it has some.
 pub fn read_cost(text: &[u8]) -> Result<Cost, ValueFault>
     ensures exact { result ≡ cost_of text.now }
+    ensures spelled { (cost : ℕ) → (result ≡ Ok cost ↔ SpellsCost cost text.now) }
 {
-    let number = read_decimal(text, COST_DECIMALS)?;
-    if number > Cost::MAX {
-        return Err(ValueFault::OutOfRange);
-    }
+    let number = decimal_within(text, COST_DECIMALS, Cost::MAX)?;
     Ok(Cost::new(number))
 }

@@ -1,7 +1,9 @@
 //! Days of the calendar.
 
-ghost use Rattle.std.specs.Prelude.{◌≡◌, ◌≤◌, IsTrue};
-ghost use Rattle.dsd_values.specs.Calendar.{date_at, day_of, is_date};
+ghost use Rattle.std.specs.Prelude.{◌≡◌, ◌↔◌, ◌≤◌, IsTrue, Ok};
+ghost use Rattle.std.specs.Int.{IsInRange};
+ghost use Rattle.dsd_values.specs.Calendar.{Date as Seen, date_at, day_of, is_date};
+ghost use Rattle.dsd_values.specs.Spelling.{SpellsDay};
 
 use crate::fault::ValueFault;
 use crate::number::digits;
@@ -9,7 +11,7 @@ use jiff::civil::Date;
 use std::marker::Model;
 
 /// How many digits a day has.
-pub const DAY_BYTES: usize = 8;
+const DAY_BYTES: usize = 8;
 
 /// A day of the Gregorian calendar, in the years 0 to 9999.
 #[derive(Clone, Copy, Debug, PartialEq, Eq)]
@@ -42,6 +44,7 @@ impl Day {
 
     pub fn year(self) -> u16
         ensures value { result ≡ self.year }
+        ensures within { result ≤ 9999 }
         ensures there { IsTrue (is_date self.year self.month self.day) }
     {
         self.year
@@ -49,6 +52,7 @@ impl Day {
 
     pub fn month(self) -> u8
         ensures value { result ≡ self.month }
+        ensures within { IsInRange 1 12 result }
         ensures there { IsTrue (is_date self.year self.month self.day) }
     {
         self.month
@@ -56,6 +60,7 @@ impl Day {
 
     pub fn day(self) -> u8
         ensures value { result ≡ self.day }
+        ensures within { IsInRange 1 31 result }
         ensures there { IsTrue (is_date self.year self.month self.day) }
     {
         self.day
@@ -65,6 +70,7 @@ impl Day {
 /// The day that eight digits write: four of the year, two of the month and two of the day.
 pub fn read_day(text: &[u8]) -> Result<Day, ValueFault>
     ensures exact { result ≡ day_of text.now }
+    ensures spelled { (day : Seen) → (result ≡ Ok day ↔ SpellsDay day text.now) }
 {
     if text.is_empty() {
         return Err(ValueFault::Empty);

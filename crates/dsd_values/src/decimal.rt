@@ -1,10 +1,11 @@
 //! Numbers with a point, read in units of the last decimal that they may have.
 
-ghost use Rattle.std.specs.Prelude.{◌≡◌, ◌+◌, ◌-◌, ◌*◌, ◌<◌, ◌≤◌, ◌^◌, IfOk, length, position};
+ghost use Rattle.std.specs.Prelude.{◌≡◌, ◌↔◌, ℕ, Ok, ◌+◌, ◌-◌, ◌*◌, ◌<◌, ◌≤◌, ◌^◌, IfOk, length, position};
 ghost use Rattle.std.specs.Char.{is_ascii_digit};
 ghost use Rattle.std.specs.List.{list_any};
 ghost use Rattle.std.specs.Str.Parse.{digits_value};
-ghost use Rattle.dsd_values.specs.Reading.{decimal_part, is_point, outside_parts, place_or, plain_decimal_of, whole_part};
+ghost use Rattle.dsd_values.specs.Spelling.{SpellsDecimal};
+ghost use Rattle.dsd_values.specs.Reading.{decimal_of, decimal_part, is_point, outside_parts, place_or, plain_decimal_of, whole_part};
 
 use crate::fault::ValueFault;
 use crate::number::{NUMBER_BYTES, digits};
@@ -32,6 +33,19 @@ pub(crate) fn read_decimal(text: &[u8], places: u32) -> Result<u64, ValueFault>
         }
         Ok((units, rest)) => Ok(scaled(units, rest, decimals.len() as u32, places)),
     }
+}
+
+/// The number of at most so many units.
+pub(crate) fn decimal_within(text: &[u8], places: u32, high: u64) -> Result<u64, ValueFault>
+    requires { places ≤ 4 }
+    ensures exact { result ≡ decimal_of places high text.now }
+    ensures spelled { (units : ℕ) → (result ≡ Ok units ↔ SpellsDecimal places high units text.now) }
+{
+    let units = read_decimal(text, places)?;
+    if units > high {
+        return Err(ValueFault::OutOfRange);
+    }
+    Ok(units)
 }
 
 fn has_digit(text: &[u8]) -> bool

@@ -1,7 +1,8 @@
 //! Delivery numbers.
 
-ghost use Rattle.std.specs.Prelude.{◌≡◌, ◌<◌, ◌≤◌, length, position};
+ghost use Rattle.std.specs.Prelude.{◌≡◌, ◌↔◌, ◌<◌, ◌≤◌, ℕ, List, Ok, length, position};
 ghost use Rattle.dsd_values.specs.Reading.{IsNumberText, delivery_number_of, is_no_number_byte};
+ghost use Rattle.dsd_values.specs.Spelling.{SpellsDeliveryNumber};
 
 use crate::fault::ValueFault;
 use arrayvec::ArrayVec;
@@ -13,7 +14,7 @@ pub const DELIVERY_NUMBER_BYTES: usize = 22;
 /// The text that names a delivery: 1 to 22 element characters without a space.
 #[derive(Debug, Drop)]
 pub struct DeliveryNumber {
-    text: ArrayVec<u8, 22>,
+    text: ArrayVec<u8, DELIVERY_NUMBER_BYTES>,
 }
 
 impl Model for DeliveryNumber {
@@ -50,6 +51,7 @@ impl DeliveryNumber {
 /// The delivery number that is the text.
 pub fn read_delivery_number(text: &[u8]) -> Result<DeliveryNumber, ValueFault>
     ensures exact { result ≡ delivery_number_of text.now }
+    ensures spelled { (number : List ℕ) → (result ≡ Ok number ↔ SpellsDeliveryNumber number text.now) }
 {
     if text.is_empty() {
         return Err(ValueFault::Empty);

@@ -1,10 +1,11 @@
 //! Numbers of lines.
 
-ghost use Rattle.std.specs.Prelude.{◌≡◌, ◌≤◌};
+ghost use Rattle.std.specs.Prelude.{◌≡◌, ◌↔◌, ◌≤◌, ℕ, Ok};
 ghost use Rattle.dsd_values.specs.Reading.{dsd_of};
+ghost use Rattle.dsd_values.specs.Spelling.{SpellsDsd};
 
 use crate::fault::ValueFault;
-use crate::number::read_number;
+use crate::number::number_within;
 use std::marker::Model;
 
 /// The number by which both ends name a line of a delivery.
@@ -52,10 +53,8 @@ impl DsdNumber {
 /// The line's number that 1 to 15 digits write.
 pub fn read_dsd(text: &[u8]) -> Result<DsdNumber, ValueFault>
     ensures exact { result ≡ dsd_of text.now }
+    ensures spelled { (dsd : ℕ) → (result ≡ Ok dsd ↔ SpellsDsd dsd text.now) }
 {
-    let number = read_number(text)?;
-    if number < u64::from(DsdNumber::MIN) || number > u64::from(DsdNumber::MAX) {
-        return Err(ValueFault::OutOfRange);
-    }
+    let number = number_within(text, u64::from(DsdNumber::MIN), u64::from(DsdNumber::MAX))?;
     Ok(DsdNumber::new(number as u16))
 }

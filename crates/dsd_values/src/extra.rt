@@ -68,10 +68,10 @@ impl Extras {
     pub fn try_copy(&self, alloc: Global) -> Result<Extras, Memory>
         ensures { IfOk result (λ copy. copy ≡ self.now) }
     {
-        let mut copy = Extras::new(alloc);
+        let mut items = Vec::with_capacity(alloc, self.items.len())?;
         for item in self.items.iter() {
-            copy.push(item.try_copy(alloc)?)?;
+            items.push_reserved(item.try_copy(alloc)?);
         }
-        Ok(copy)
+        Ok(Extras { items })
     }
 }

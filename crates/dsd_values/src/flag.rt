@@ -1,7 +1,8 @@
 //! Flags of deliveries.
 
-ghost use Rattle.std.specs.Prelude.{◌≡◌};
+ghost use Rattle.std.specs.Prelude.{◌≡◌, ◌↔◌, Ok};
 ghost use Rattle.dsd_values.specs.Reading.{flag_of};
+ghost use Rattle.dsd_values.specs.Spelling.{flag_text};
 
 use crate::fault::ValueFault;
 
@@ -17,6 +18,7 @@ pub enum Flag {
 /// The flag that one letter writes.
 pub fn read_flag(text: &[u8]) -> Result<Flag, ValueFault>
     ensures exact { result ≡ flag_of text.now }
+    ensures spelled { (flag : Flag) → (result ≡ Ok flag ↔ text.now ≡ flag_text flag) }
 {
     match text {
         [] => Err(ValueFault::Empty),

@@ -1,11 +1,12 @@
 //! Levels of proposals.
 
-ghost use Rattle.std.specs.Prelude.{◌≡◌, ◌≤◌};
+ghost use Rattle.std.specs.Prelude.{◌≡◌, ◌↔◌, ◌≤◌, ℕ, Ok};
 ghost use Rattle.dsd_values.specs.Reading.{level_of};
+ghost use Rattle.dsd_values.specs.Spelling.{SpellsLevel};
 
 use crate::fault::ValueFault;
 use crate::limits::HIGHEST_LEVEL;
-use crate::number::read_number;
+use crate::number::number_within;
 use std::marker::Model;
 
 /// The level of a proposal. The base record has level 0, and each adjustment the next one.
@@ -49,10 +50,8 @@ impl Level {
 /// The level that 1 to 15 digits write.
 pub fn read_level(text: &[u8]) -> Result<Level, ValueFault>
     ensures exact { result ≡ level_of text.now }
+    ensures spelled { (level : ℕ) → (result ≡ Ok level ↔ SpellsLevel level text.now) }
 {
-    let number = read_number(text)?;
-    if number > u64::from(Level::MAX) {
-        return Err(ValueFault::OutOfRange);
-    }
+    let number = number_within(text, 0, u64::from(Level::MAX))?;
     Ok(Level::new(number as u8))
 }

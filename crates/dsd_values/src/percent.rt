@@ -1,9 +1,10 @@
 //! Percents.
 
-ghost use Rattle.std.specs.Prelude.{◌≡◌, ◌≤◌};
+ghost use Rattle.std.specs.Prelude.{◌≡◌, ◌↔◌, ◌≤◌, ℕ, Ok};
 ghost use Rattle.dsd_values.specs.Reading.{percent_of};
+ghost use Rattle.dsd_values.specs.Spelling.{SpellsPercent};
 
-use crate::decimal::read_decimal;
+use crate::decimal::decimal_within;
 use crate::fault::ValueFault;
 use std::marker::Model;
 
@@ -50,10 +51,8 @@ pub const PERCENT_DECIMALS: u32 = 2;
 /// The percent that digits write, with a point and up to two decimals where it has some.
 pub fn read_percent(text: &[u8]) -> Result<Percent, ValueFault>
     ensures exact { result ≡ percent_of text.now }
+    ensures spelled { (percent : ℕ) → (result ≡ Ok percent ↔ SpellsPercent percent text.now) }
 {
-    let number = read_decimal(text, PERCENT_DECIMALS)?;
-    if number > u64::from(Percent::MAX) {
-        return Err(ValueFault::OutOfRange);
-    }
+    let number = decimal_within(text, PERCENT_DECIMALS, u64::from(Percent::MAX))?;
     Ok(Percent::new(number as u32))
 }

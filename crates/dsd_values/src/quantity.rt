@@ -1,10 +1,11 @@
 //! Quantities, of a line and of a whole delivery.
 
-ghost use Rattle.std.specs.Prelude.{◌≡◌, ◌≤◌};
+ghost use Rattle.std.specs.Prelude.{◌≡◌, ◌↔◌, ◌≤◌, ℕ, Ok};
 ghost use Rattle.dsd_values.specs.Reading.{quantity_of, total_quantity_of};
+ghost use Rattle.dsd_values.specs.Spelling.{SpellsQuantity, SpellsTotalQuantity};
 
 use crate::fault::ValueFault;
-use crate::number::read_number;
+use crate::number::number_within;
 use std::marker::Model;
 
 /// How many units a line has.
@@ -47,11 +48,9 @@ impl Quantity {
 /// The quantity that 1 to 15 digits write.
 pub fn read_quantity(text: &[u8]) -> Result<Quantity, ValueFault>
     ensures exact { result ≡ quantity_of text.now }
+    ensures spelled { (quantity : ℕ) → (result ≡ Ok quantity ↔ SpellsQuantity quantity text.now) }
 {
-    let number = read_number(text)?;
-    if number > u64::from(Quantity::MAX) {
-        return Err(ValueFault::OutOfRange);
-    }
+    let number = number_within(text, 0, u64::from(Quantity::MAX))?;
     Ok(Quantity::new(number as u32))
 }
 
@@ -61,10 +60,8 @@ pub const MOST_TOTAL_QUANTITY: u32 = 999_999_999;
 /// The sum of quantities that 1 to 15 digits write.
 pub fn read_total_quantity(text: &[u8]) -> Result<u32, ValueFault>
     ensures exact { result ≡ total_quantity_of text.now }
+    ensures spelled { (quantity : ℕ) → (result ≡ Ok quantity ↔ SpellsTotalQuantity quantity text.now) }
 {
-    let number = read_number(text)?;
-    if number > u64::from(MOST_TOTAL_QUANTITY) {
-        return Err(ValueFault::OutOfRange);
-    }
+    let number = number_within(text, 0, u64::from(MOST_TOTAL_QUANTITY))?;
     Ok(number as u32)
 }

@@ -1,7 +1,8 @@
 //! The two ends of a delivery.
 
-ghost use Rattle.std.specs.Prelude.{◌≡◌};
+ghost use Rattle.std.specs.Prelude.{◌≡◌, ◌↔◌, Ok};
 ghost use Rattle.dsd_values.specs.Reading.{role_of};
+ghost use Rattle.dsd_values.specs.Spelling.{role_text};
 
 use crate::fault::ValueFault;
 
@@ -17,6 +18,7 @@ pub enum Role {
 /// The role that one letter writes.
 pub fn read_role(text: &[u8]) -> Result<Role, ValueFault>
     ensures exact { result ≡ role_of text.now }
+    ensures spelled { (role : Role) → (result ≡ Ok role ↔ text.now ≡ role_text role) }
 {
     match text {
         [] => Err(ValueFault::Empty),

@@ -1,7 +1,8 @@
 //! Words: the texts of elements that have no further form.
 
-ghost use Rattle.std.specs.Prelude.{◌≡◌, ◌≤◌, [], length, position};
+ghost use Rattle.std.specs.Prelude.{◌≡◌, ◌↔◌, ◌≤◌, ℕ, List, Ok, [], length, position};
 ghost use Rattle.dsd_values.specs.Reading.{IsElementText, filled_word_of, is_no_element_byte, word_between, word_of};
+ghost use Rattle.dsd_values.specs.Spelling.{SpellsFilledWord, SpellsWord, SpellsWordBetween};
 
 use crate::fault::ValueFault;
 use crate::limits::WORD_BYTES;
@@ -11,7 +12,7 @@ use std::marker::Model;
 /// A text of at most 35 element characters: 20 to 7E hexadecimal other than `*`.
 #[derive(Debug, Drop)]
 pub struct Word {
-    text: ArrayVec<u8, 35>,
+    text: ArrayVec<u8, WORD_BYTES>,
 }
 
 impl Model for Word {
@@ -55,6 +56,7 @@ impl Word {
 /// The word that is the text. The empty text is the empty word.
 pub fn read_word(text: &[u8]) -> Result<Word, ValueFault>
     ensures exact { result ≡ word_of text.now }
+    ensures spelled { (word : List ℕ) → (result ≡ Ok word ↔ SpellsWord word text.now) }
 {
     if text.len() > WORD_BYTES {
         return Err(ValueFault::TooLong(text.len()));
@@ -68,6 +70,7 @@ pub fn read_word(text: &[u8]) -> Result<Word, ValueFault>
 /// The word that is the text, which may not be empty.
 pub fn read_filled_word(text: &[u8]) -> Result<Word, ValueFault>
     ensures exact { result ≡ filled_word_of text.now }
+    ensures spelled { (word : List ℕ) → (result ≡ Ok word ↔ SpellsFilledWord word text.now) }
 {
     if text.is_empty() {
         return Err(ValueFault::Empty);
@@ -79,6 +82,7 @@ pub fn read_filled_word(text: &[u8]) -> Result<Word, ValueFault>
 pub fn read_word_between(text: &[u8], least: usize, most: usize) -> Result<Word, ValueFault>
     requires { most ≤ WORD_BYTES }
     ensures exact { result ≡ word_between least most text.now }
+    ensures spelled { (word : List ℕ) → (result ≡ Ok word ↔ SpellsWordBetween least most word text.now) }
 {
     if text.is_empty() {
         return Err(ValueFault::Empty);

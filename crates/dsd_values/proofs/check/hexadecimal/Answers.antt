@@ -1,4 +1,4 @@
-use Rattle.std.proofs.Common.{◌∙◌, sym}
+use Rattle.std.proofs.Common.{◌∙◌}
 use Rattle.dsd_values.proofs.Hexadecimal.{decoded}
 use Rattle.dsd_values.proofs.check.hexadecimal.Goals as goal
 

@@ -1,5 +1,4 @@
 use Rattle.std.proofs.Common.{◌≡◌, ◌∙◌, get_or, true, ap, not, sym, arith}
-use Rattle.std.specs.Char.{is_ascii_digit}
 use Rattle.std.specs.Str.Parse.{digits_value}
 use Rattle.dsd_values.specs.Reading.{is_no_digit, place_or}
 use Rattle.dsd_values.proofs.Digits.{first_is, next_digit, one_more, below_fifteen}
