@@ -1,0 +1,5 @@
+pub mod Bytes
+pub mod FrameShapes
+pub mod FrameSpelling
+pub mod Judging
+pub mod Scanning

@@ -1,0 +1,12 @@
+//! The frames of a line: how each is spelled, a scanner of bytes, and a cutter of texts into blocks.
+#![tactic(auto)]
+
+mod begun;
+mod bytes;
+mod frame;
+mod scanner;
+mod spelling;
+
+pub use frame::{BLOCK_READ, Frame, HEADER_BYTES};
+pub use scanner::Scanner;
+pub use spelling::spell;
