@@ -1,3 +1,9 @@
 pub mod Judged
 pub mod Told
 pub mod Answered
+pub mod Heard
+pub mod Spoken
+pub mod UnitCuts
+pub mod Exists
+pub mod Fewest
+pub mod Occurrences

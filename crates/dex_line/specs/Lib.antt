@@ -3,3 +3,7 @@ pub mod FrameShapes
 pub mod FrameSpelling
 pub mod Judging
 pub mod Scanning
+pub mod Hearing
+pub mod TextUnits
+pub mod BlockCut
+pub mod Occurrence

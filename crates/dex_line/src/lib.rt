@@ -3,10 +3,13 @@
 
 mod begun;
 mod bytes;
+mod cutter;
 mod frame;
 mod scanner;
 mod spelling;
+mod units;
 
+pub use cutter::{BLOCK_WRITTEN, Cutter};
 pub use frame::{BLOCK_READ, Frame, HEADER_BYTES};
 pub use scanner::Scanner;
 pub use spelling::spell;
