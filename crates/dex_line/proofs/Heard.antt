@@ -19,7 +19,7 @@ begun_front front [] s = subst (λ b. IsBegun b) (append-nil front) s
 begun_front front (x ∷ more) (shape, b, rest, s) =
     (shape, x, more ++ b ∷ rest, subst (λ bytes. Spelled shape bytes) (append_assoc front (x ∷ more) (b ∷ rest)) s)
 
-nothing_begun : IsBegun []
+pub nothing_begun : IsBegun []
 nothing_begun = (Enq, 5, [], (tt, refl))
 
 -- what has begun is heard without an answer

@@ -3,6 +3,8 @@ pub mod Told
 pub mod Answered
 pub mod Heard
 pub mod Spoken
+pub mod Pieces
+pub mod Captures
 pub mod UnitCuts
 pub mod Exists
 pub mod Fewest

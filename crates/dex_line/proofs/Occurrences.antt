@@ -9,7 +9,7 @@ use Rattle.dex_line.specs.FrameSpelling.{opening, is_closing, low_check, high_ch
 use Rattle.dex_line.specs.Occurrence.{broken, IsItem, AreItems, IsOneItem, IsCutShort}
 use Rattle.dex_line.specs.declared.frame.Opened.{Opened}
 use Rattle.dex_line.specs.declared.frame.Opened.TheVariants as opens
-use Rattle.dex_line.proofs.Told.{no_front}
+use Rattle.dex_line.proofs.Pieces.{split_bytes, same_rest, same_place}
 
 -- DLE, STX and a text byte: so a block begins, and nothing else
 abbrev starts_block : List ℕ → Bool
@@ -174,34 +174,6 @@ items_follow (item ∷ items) ((shape, s, e), a) =
 block_starts : (last : Bool) (text : List ℕ) (back : List ℕ) → IsTextOf opens.Block text → starts_block (spelling (Block last text) ++ back) ≡ true
 block_starts last [] back t = let some = t.some in absurd (omega arith)
 block_starts last (x ∷ text) back t = (all_first x text t.bytes).0
-
-split_bytes : (a b c d : List ℕ) → a ++ b ≡ c ++ d
-    → ((r : List ℕ) × (a ≡ c ++ r) × (d ≡ r ++ b)) ⊎ ((u : ℕ) × (r : List ℕ) × (c ≡ a ++ u ∷ r) × (b ≡ (u ∷ r) ++ d))
-split_bytes a b [] d e = inl (a, refl, sym e)
-split_bytes [] b (u ∷ c) d e = inr (u, c, refl, e)
-split_bytes (x ∷ a) b (u ∷ c) d e =
-    let h : x ≡ u = cc in
-    let t : a ++ b ≡ c ++ d = cc in
-    elim (split_bytes a b c d t) [
-      | inl (r, p, q) ↦ inl (r, ap (λ y. y ∷ a) h ∙ ap (λ l. u ∷ l) p, q)
-      | inr (v, r, p, q) ↦ inr (v, r, ap (λ y. y ∷ c) (sym h) ∙ ap (λ l. x ∷ l) p, q)
-    ]
-
-same_rest : (a b c : List ℕ) → a ++ b ≡ a ++ c → b ≡ c
-same_rest [] b c e = e
-same_rest (x ∷ a) b c e = let t : a ++ b ≡ a ++ c = cc in same_rest a b c t
-
-longer : (a b : FrameShape) (x y r : List ℕ) → Spelled a x → Spelled b y → x ≡ y ++ r → x ≡ y
-longer a b x y [] s t p = p ∙ append-nil y
-longer a b x y (u ∷ r) s t p = absurd (no_front b a y u r t (subst (λ l. Spelled a l) p s))
-
--- two spellings at one place are one
-same_place : (a b : FrameShape) (x y v w : List ℕ) → Spelled a x → Spelled b y → x ++ v ≡ y ++ w → x ≡ y
-same_place a b x y v w s t e =
-    elim (split_bytes x v y w e) [
-      | inl (r, p, q) ↦ longer a b x y r s t p
-      | inr (u, r, p, q) ↦ absurd (no_front a b x u r s (subst (λ l. Spelled b l) p t))
-    ]
 
 aligned : (last : Bool) (text : List ℕ) (item next back : List ℕ) → IsTextOf opens.Block text → IsSpelledOr item → spelling (Block last text) ++ back ≡ item ++ next → item ≡ spelling (Block last text)
 aligned last text item next back t (inl (shape, s)) e = sym (same_place (Block last text) shape (spelling (Block last text)) item back next (t, refl) s e)

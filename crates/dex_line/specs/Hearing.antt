@@ -23,6 +23,7 @@ HeardAs bytes (shape ∷ shapes) rest =
 
 -- ---- as a function: one push after another
 
+-- the bytes since the last answer, and the answers so far
 pub record Hearing : Type 0 where
   pub begun : List ℕ
   pub shapes : List FrameShape
@@ -33,11 +34,11 @@ after_answer shapes bytes (Some shape) = record { begun = []; shapes = shapes ++
 
 -- one push
 abbrev pub hear : Hearing → ℕ → Hearing
-hear h b = after_answer h.shapes (h.begun ++ b ∷ []) (judge (h.begun ++ b ∷ []))
+hear heard b = after_answer heard.shapes (heard.begun ++ b ∷ []) (judge (heard.begun ++ b ∷ []))
 
 -- one piece of the stream
 abbrev pub hear_all : Hearing → List ℕ → Hearing
-hear_all h bytes = fold hear h bytes
+hear_all heard bytes = fold hear heard bytes
 
 abbrev pub nothing_heard : Hearing
 nothing_heard = record { begun = []; shapes = [] }

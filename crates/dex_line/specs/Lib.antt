@@ -4,6 +4,7 @@ pub mod FrameSpelling
 pub mod Judging
 pub mod Scanning
 pub mod Hearing
+pub mod Captured
 pub mod TextUnits
 pub mod BlockCut
 pub mod Occurrence

@@ -5,11 +5,13 @@ mod begun;
 mod bytes;
 mod cutter;
 mod frame;
+mod frames;
 mod scanner;
 mod spelling;
 mod units;
 
 pub use cutter::{BLOCK_WRITTEN, Cutter};
 pub use frame::{BLOCK_READ, Frame, HEADER_BYTES};
+pub use frames::Frames;
 pub use scanner::Scanner;
 pub use spelling::spell;
