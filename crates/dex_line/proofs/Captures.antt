@@ -109,7 +109,7 @@ one_first a b bytes v w f g =
 -- ---- all frames
 
 -- there is one list of frames
-frames_one : (xs ys : List (ℕ × FrameShape)) (place : ℕ) (bytes : List ℕ) → FramesIn place bytes xs → FramesIn place bytes ys → xs ≡ ys
+pub frames_one : (xs ys : List (ℕ × FrameShape)) (place : ℕ) (bytes : List ℕ) → FramesIn place bytes xs → FramesIn place bytes ys → xs ≡ ys
 frames_one [] [] place bytes f g = refl
 frames_one [] (y ∷ ys) place bytes f (at, left, first, more) = absurd (first_some y.1 bytes left first f)
 frames_one (x ∷ xs) [] place bytes (at, left, first, more) g = absurd (first_some x.1 bytes left first g)
@@ -125,7 +125,7 @@ and_quiet-cons shape shapes None = refl
 and_quiet-cons shape shapes (Some last) = refl
 
 -- a first frame, and those behind it where it is not refused
-frames_on : (refused : Bool) (shape : FrameShape) (place : ℕ) (bytes after : List ℕ) (more : List (ℕ × FrameShape)) → IsFirstFrame shape bytes (if refused then [] else after) → FramesIn (place + length (spelling shape)) after more → FramesIn place bytes ((place, shape) ∷ (if refused then [] else more))
+pub frames_on : (refused : Bool) (shape : FrameShape) (place : ℕ) (bytes after : List ℕ) (more : List (ℕ × FrameShape)) → IsFirstFrame shape bytes (if refused then [] else after) → FramesIn (place + length (spelling shape)) after more → FramesIn place bytes ((place, shape) ∷ (if refused then [] else more))
 frames_on true shape place bytes after more first on = (refl, [], first, refl)
 frames_on false shape place bytes after more first on = (refl, after, first, on)
 

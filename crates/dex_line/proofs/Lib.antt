@@ -5,6 +5,7 @@ pub mod Heard
 pub mod Spoken
 pub mod Pieces
 pub mod Captures
+pub mod Covered
 pub mod UnitCuts
 pub mod Exists
 pub mod Fewest

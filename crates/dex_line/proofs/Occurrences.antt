@@ -6,7 +6,7 @@ use Rattle.std.proofs.lemmas.Bool.Decides.{nat_tests}
 use Rattle.dex_line.specs.FrameShapes.{FrameShape, Enq, Ack0, Ack1, Nak, Eot, Header, Block, Damaged, Bad}
 use Rattle.dex_line.specs.Bytes.{is_text}
 use Rattle.dex_line.specs.FrameSpelling.{opening, is_closing, low_check, high_check, wrapped, guarded, spelling, IsTextOf, IsSpoken, Spelled}
-use Rattle.dex_line.specs.Occurrence.{broken, IsItem, AreItems, IsOneItem, IsCutShort}
+use Rattle.dex_line.specs.Occurrence.{broken, IsItem, AreItems, IsOneItem, IsCutShort, Occurs}
 use Rattle.dex_line.specs.declared.frame.Opened.{Opened}
 use Rattle.dex_line.specs.declared.frame.Opened.TheVariants as opens
 use Rattle.dex_line.proofs.Pieces.{split_bytes, same_rest, same_place}
@@ -257,3 +257,9 @@ item_before_cut last text items cut front back t a (shape, b, more, s, e) same =
           let h : back ++ tail ≡ (concat rest ++ cut) ++ tail = g ∙ ap concat p ∙ join_last rest item ∙ ap (λ x. concat rest ++ x) e ∙ sym (append_assoc (concat rest) cut tail) in
           (before, rest, q, f, same_front back (concat rest ++ cut) tail h)
     ]
+
+pub item_of : (last : Bool) (text : List ℕ) (items : List (List ℕ)) (cut : List ℕ) → IsSpoken (Block last text) → AreItems items → IsCutShort cut → Occurs last text (concat items ++ cut)
+    → (before : List (List ℕ)) × (after : List (List ℕ)) × (items ≡ before ++ spelling (Block last text) ∷ after)
+item_of last text items cut t a s (front, back, same) =
+    let (before, after, found, f, g) = item_before_cut last text items cut front back t a s same in
+    (before, after, found)

@@ -34,4 +34,3 @@ same_place a b x y v w s t e =
       | inl (r, p, q) ↦ longer a b x y r s t p
       | inr (u, r, p, q) ↦ absurd (no_front a b x u r s (subst (λ l. Spelled b l) p t))
     ]
-

@@ -14,7 +14,8 @@ use Rattle.dex_line.proofs.Told.{judged_whole}
 use Rattle.dex_line.proofs.Answered.{answers_judged}
 use Rattle.dex_line.proofs.Heard.{heard_is}
 
-said : (shape : FrameShape) → IsSpoken shape → Spelled shape (spelling shape)
+-- a frame that can be said is spelled by its spelling
+pub said : (shape : FrameShape) → IsSpoken shape → Spelled shape (spelling shape)
 said Enq s = (s, refl)
 said Ack0 s = (s, refl)
 said Ack1 s = (s, refl)

@@ -137,7 +137,8 @@ told_closed o text c t h =
     told_part o text c (16 ∷ opening o ∷ (text ++ 16 ∷ c ∷ [])) (low_check text c) (high_check text c ∷ []) t h
     (ap (λ r. 16 ∷ opening o ∷ r) (sym (append_assoc text (16 ∷ c ∷ []) (low_check text c ∷ high_check text c ∷ []))))
 
-spelled_damaged : (o : Opened) (text : List ℕ) (c low high : ℕ) → IsTextOf o text → is_closing o c ≡ true → ((low ≡ low_check text c) × (high ≡ high_check text c) → ⊥) → Spelled Damaged (wrapped o text c low high)
+-- a text between its marks with another check behind it
+pub spelled_damaged : (o : Opened) (text : List ℕ) (c low high : ℕ) → IsTextOf o text → is_closing o c ≡ true → ((low ≡ low_check text c) × (high ≡ high_check text c) → ⊥) → Spelled Damaged (wrapped o text c low high)
 spelled_damaged o text c low high t h d = record { opened = o; text = text; closing = c; low = low; high = high; fits = t; closes = h; differs = d; spelled = refl }
 
 told_low : (o : Opened) (text : List ℕ) (c low : ℕ) → IsTextOf o text → is_closing o c ≡ true → Told (16 ∷ opening o ∷ (text ++ 16 ∷ c ∷ low ∷ [])) None

@@ -1,6 +1,7 @@
 -- Captured bytes of one direction, as frames with their places: every frame with the place of its first byte, up to the
 -- first that is damaged or bad. A frame that has begun at the end of the bytes is bad.
 use Rattle.std.specs.Prelude.{◌≡◌, ◌≢◌, ℕ, ◌+◌, ◌≤◌, Bool, true, false, if◌then◌else◌, List, [], ◌∷◌, ◌++◌, length, drop, Option, Some, None}
+use Rattle.std.specs.List.{flat_map, list_any}
 use Rattle.dex_line.specs.FrameShapes.{FrameShape, Enq, Ack0, Ack1, Nak, Eot, Header, Block, Damaged, Bad}
 use Rattle.dex_line.specs.FrameSpelling.{spelling, Spelled}
 use Rattle.dex_line.specs.Hearing.{Hearing, hear_all, nothing_heard}
@@ -65,6 +66,12 @@ frames_from place bytes = with_places place (answers_to (hear_all nothing_heard 
 
 abbrev pub frames_in : List ℕ → List (ℕ × FrameShape)
 frames_in bytes = frames_from 0 bytes
+
+-- the join of the spellings of the frames, and what is behind it: nothing, where no frame is refused
+pub record IsCoveredBy (bytes : List ℕ) (frames : List (ℕ × FrameShape)) : Type 0 where
+  pub rest : List ℕ
+  pub joined : bytes ≡ flat_map (λ frame. spelling frame.1) frames ++ rest
+  pub whole : list_any (λ frame. is_refused frame.1) frames ≡ false → rest ≡ []
 
 -- ---- one step of the reading
 

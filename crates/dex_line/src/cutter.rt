@@ -7,10 +7,9 @@ ghost use Rattle.dex_line.specs.Bytes.{is_text};
 ghost use Rattle.dex_line.specs.FrameSpelling.{IsTextOf};
 ghost use Rattle.dex_line.specs.TextUnits.{UnitsFit};
 
-use std::marker::Model;
-
 use super::frame::Opened;
 use super::units::first_unit;
+use std::marker::Model;
 
 /// The most bytes of a block that is written.
 pub const BLOCK_WRITTEN: usize = 245;

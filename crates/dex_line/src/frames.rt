@@ -4,10 +4,9 @@ ghost use Rattle.std.specs.Prelude.{◌≡◌, ◌≤◌, ◌∷◌, [], length,
 ghost use Rattle.dex_line.specs.Captured.{frames_in, is_refused, left_behind, IsFrameOfSize};
 ghost use Rattle.dex_line.specs.FrameShapes.{frame_seen};
 
-use std::marker::Model;
-
 use super::frame::Frame;
 use super::scanner::Scanner;
+use std::marker::Model;
 
 /// Reads captured bytes of one direction, frame by frame. A contract sees it as the frames that are still to come, each
 /// with the place of its first byte.
@@ -80,7 +79,11 @@ fn behind<'a>(frame: &Frame, bytes: &'a [u8], size: usize) -> &'a [u8]
     requires { size ≤ length bytes.now }
     ensures { result.now ≡ left_behind (frame_seen frame.now) (drop size bytes.now) }
 {
-    if is_refused_frame(frame) { &[] } else { &bytes[size..] }
+    if is_refused_frame(frame) {
+        &[]
+    } else {
+        &bytes[size..]
+    }
 }
 
 fn is_refused_frame(frame: &Frame) -> bool

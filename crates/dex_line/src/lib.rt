@@ -6,6 +6,7 @@ mod bytes;
 mod cutter;
 mod frame;
 mod frames;
+pub mod laws;
 mod scanner;
 mod spelling;
 mod units;
