@@ -23,7 +23,7 @@ pub nothing_begun : IsBegun []
 nothing_begun = (Enq, 5, [], (tt, refl))
 
 -- what has begun is heard without an answer
-begun_heard : (done more : List ℕ) (shapes : List FrameShape) → IsBegun (done ++ more) → hear_all (record { begun = done; shapes = shapes }) more ≡ record { begun = done ++ more; shapes = shapes }
+pub begun_heard : (done more : List ℕ) (shapes : List FrameShape) → IsBegun (done ++ more) → hear_all (record { begun = done; shapes = shapes }) more ≡ record { begun = done ++ more; shapes = shapes }
 begun_heard done [] shapes s = ap (λ b. record { begun = b; shapes = shapes }) (sym (append-nil done))
 begun_heard done (b ∷ more) shapes s =
     let group = append_assoc done (b ∷ []) more in

@@ -1,11 +1,11 @@
 -- What is judged behind a text, and how a text grows.
-use Rattle.std.proofs.Common.{◌≡◌, ℕ, ◌+◌, ◌<◌, ◌≤◌, true, false, List, [], ◌∷◌, ◌++◌, length, None, refl, sym, ◌∙◌, ap, arith, append_assoc, append-nil, length-append}
-use Rattle.std.specs.List.{list_all}
+use Rattle.std.proofs.Common.{◌≡◌, ℕ, suc, Bool, ◌+◌, ◌<◌, ◌≤◌, true, false, List, [], ◌∷◌, ◌++◌, length, take, position, None, refl, sym, ◌∙◌, ap, arith, append_assoc, append-nil, length-append}
+use Rattle.std.specs.List.{list_all, position_or_len}
 use Rattle.std.proofs.lemmas.Bool.Decides.{nat_tests}
 use Rattle.std.proofs.lemmas.List.Folds.{list_all-append}
 use Rattle.std.proofs.lemmas.List.Sums.{fold-append}
-use Rattle.block_check.specs.Crc16.{crc_of, crc_step}
-use Rattle.dex_line.specs.Bytes.{is_text}
+use Rattle.block_check.specs.Crc16.{crc_from, crc_of, crc_step}
+use Rattle.dex_line.specs.Bytes.{is_no_text, is_text}
 use Rattle.dex_line.specs.FrameSpelling.{opening, most_text, is_closing, IsTextOf}
 use Rattle.dex_line.specs.Judging.{judge, judge_text, judge_closing, judge_check}
 use Rattle.dex_line.specs.Scanning.{begun, begun_with, judged_at, IsSound, IsTextSoFar, IsTextClosed}
@@ -95,3 +95,40 @@ grown (Text o) text b = refl
 grown (Closing o) text b = ap (λ r. 16 ∷ opening o ∷ r) (append_assoc text (16 ∷ []) (b ∷ []))
 grown (Check o c) text b = ap (λ r. 16 ∷ opening o ∷ r) (append_assoc text (16 ∷ c ∷ []) (b ∷ []))
 grown (Low o c low) text b = ap (λ r. 16 ∷ opening o ∷ r) (append_assoc text (16 ∷ c ∷ low ∷ []) (b ∷ []))
+
+-- ---- many bytes of text at once
+
+more_before : (b : ℕ) (bytes : List ℕ) (text : Bool) → is_text b ≡ text → list_all is_text (take (position_or_len is_no_text bytes) bytes) ≡ true → list_all is_text (take (position_or_len is_no_text (b ∷ bytes)) (b ∷ bytes)) ≡ true
+more_before b bytes true is on =
+    let one : position_or_len is_no_text (b ∷ bytes) ≡ suc (position_or_len is_no_text bytes) = grind (arith, nat_tests) in
+    ap (λ n. list_all is_text (take n (b ∷ bytes))) one ∙ grind (arith, nat_tests)
+more_before b bytes false is on =
+    let none : position_or_len is_no_text (b ∷ bytes) ≡ 0 = grind (arith, nat_tests) in
+    ap (λ n. list_all is_text (take n (b ∷ bytes))) none
+
+-- what stands before the first byte that is no text
+pub text_before : (bytes : List ℕ) → list_all is_text (take (position_or_len is_no_text bytes) bytes) ≡ true
+text_before [] = refl
+text_before (b ∷ bytes) = more_before b bytes (is_text b) refl (text_before bytes)
+
+none_more : (b : ℕ) (bytes : List ℕ) (text : Bool) → is_text b ≡ text → position is_no_text (b ∷ bytes) ≡ None → (position is_no_text bytes ≡ None → length bytes ≡ position_or_len is_no_text bytes) → length (b ∷ bytes) ≡ position_or_len is_no_text (b ∷ bytes)
+none_more b bytes true is none on =
+    let next : position is_no_text bytes ≡ None = grind (arith, nat_tests) in
+    let e = on next in
+    grind (arith, nat_tests)
+none_more b bytes false is none on = absurd (grind (arith, nat_tests))
+
+pub none_other : (bytes : List ℕ) → position is_no_text bytes ≡ None → length bytes ≡ position_or_len is_no_text bytes
+none_other [] none = refl
+none_other (b ∷ bytes) none = none_more b bytes (is_text b) refl none (λ next. none_other bytes next)
+
+pub grown_none : (stage : Stage) (text bytes : List ℕ) → begun stage text ≡ begun stage text ++ take 0 bytes
+grown_none stage text bytes = sym (append-nil (begun stage text))
+
+-- more of a text
+pub text_goes_on : (o : Opened) (text run : List ℕ) (check : ℕ) → IsTextSoFar o text check → list_all is_text run ≡ true → length text + length run ≤ most_text o → IsTextSoFar o (text ++ run) (crc_from check run)
+text_goes_on o text run check s is room = record {
+  fits = omega (arith, length-append text run);
+  bytes = list_all-append is_text text run ∙ (let a = s.bytes in grind (arith, nat_tests));
+  running = ap (λ n. crc_from n run) s.running ∙ sym (fold-append crc_step 0 text run);
+}

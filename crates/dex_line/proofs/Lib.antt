@@ -2,6 +2,7 @@ pub mod Judged
 pub mod Told
 pub mod Answered
 pub mod Heard
+pub mod Many
 pub mod Spoken
 pub mod Pieces
 pub mod Captures

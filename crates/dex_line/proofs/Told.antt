@@ -120,19 +120,19 @@ least_text : (o : Opened) → IsTextOf o (32 ∷ [])
 least_text opens.Header = record { some = omega arith; fits = omega arith; bytes = (let a = a_byte in grind (arith, nat_tests)) }
 least_text opens.Block = record { some = omega arith; fits = omega arith; bytes = (let a = a_byte in grind (arith, nat_tests)) }
 
-told_so_far : (o : Opened) (text : List ℕ) → length text ≤ most_text o → list_all is_text text ≡ true → Told (16 ∷ opening o ∷ (text ++ [])) None
+pub told_so_far : (o : Opened) (text : List ℕ) → length text ≤ most_text o → list_all is_text text ≡ true → Told (16 ∷ opening o ∷ (text ++ [])) None
 told_so_far o [] fits all = told_part o (32 ∷ []) 3 (16 ∷ opening o ∷ []) 32 (16 ∷ 3 ∷ low_check (32 ∷ []) 3 ∷ high_check (32 ∷ []) 3 ∷ []) (least_text o) (closes_all o) refl
 told_so_far o (x ∷ text) fits all =
     let t : IsTextOf o (x ∷ text) = record { some = omega arith; fits = fits; bytes = all } in
     told_part o (x ∷ text) 3 (16 ∷ opening o ∷ ((x ∷ text) ++ [])) 16 (3 ∷ low_check (x ∷ text) 3 ∷ high_check (x ∷ text) 3 ∷ []) t (closes_all o)
     (ap (λ r. 16 ∷ opening o ∷ (r ++ 16 ∷ 3 ∷ low_check (x ∷ text) 3 ∷ high_check (x ∷ text) 3 ∷ [])) (sym (append-nil (x ∷ text))))
 
-told_marked_end : (o : Opened) (text : List ℕ) → IsTextOf o text → Told (16 ∷ opening o ∷ (text ++ 16 ∷ [])) None
+pub told_marked_end : (o : Opened) (text : List ℕ) → IsTextOf o text → Told (16 ∷ opening o ∷ (text ++ 16 ∷ [])) None
 told_marked_end o text t =
     told_part o text 3 (16 ∷ opening o ∷ (text ++ 16 ∷ [])) 3 (low_check text 3 ∷ high_check text 3 ∷ []) t (closes_all o)
     (ap (λ r. 16 ∷ opening o ∷ r) (sym (append_assoc text (16 ∷ []) (3 ∷ low_check text 3 ∷ high_check text 3 ∷ []))))
 
-told_closed : (o : Opened) (text : List ℕ) (c : ℕ) → IsTextOf o text → is_closing o c ≡ true → Told (16 ∷ opening o ∷ (text ++ 16 ∷ c ∷ [])) None
+pub told_closed : (o : Opened) (text : List ℕ) (c : ℕ) → IsTextOf o text → is_closing o c ≡ true → Told (16 ∷ opening o ∷ (text ++ 16 ∷ c ∷ [])) None
 told_closed o text c t h =
     told_part o text c (16 ∷ opening o ∷ (text ++ 16 ∷ c ∷ [])) (low_check text c) (high_check text c ∷ []) t h
     (ap (λ r. 16 ∷ opening o ∷ r) (sym (append_assoc text (16 ∷ c ∷ []) (low_check text c ∷ high_check text c ∷ []))))
@@ -141,7 +141,7 @@ told_closed o text c t h =
 pub spelled_damaged : (o : Opened) (text : List ℕ) (c low high : ℕ) → IsTextOf o text → is_closing o c ≡ true → ((low ≡ low_check text c) × (high ≡ high_check text c) → ⊥) → Spelled Damaged (wrapped o text c low high)
 spelled_damaged o text c low high t h d = record { opened = o; text = text; closing = c; low = low; high = high; fits = t; closes = h; differs = d; spelled = refl }
 
-told_low : (o : Opened) (text : List ℕ) (c low : ℕ) → IsTextOf o text → is_closing o c ≡ true → Told (16 ∷ opening o ∷ (text ++ 16 ∷ c ∷ low ∷ [])) None
+pub told_low : (o : Opened) (text : List ℕ) (c low : ℕ) → IsTextOf o text → is_closing o c ≡ true → Told (16 ∷ opening o ∷ (text ++ 16 ∷ c ∷ low ∷ [])) None
 told_low o text c low t h =
     elim (cases_eq low (low_check text c)) [
       | inl same ↦ told_part o text c (16 ∷ opening o ∷ (text ++ 16 ∷ c ∷ low ∷ [])) (high_check text c) [] t h

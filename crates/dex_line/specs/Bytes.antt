@@ -1,5 +1,5 @@
 -- The control bytes of a line, as ASCII has them, and the bytes of a text.
-use Rattle.std.specs.Prelude.{ℕ, Bool, ◌||◌, ◌==◌}
+use Rattle.std.specs.Prelude.{ℕ, Bool, not, ◌||◌, ◌==◌}
 use Rattle.std.specs.Int.{is_in_range}
 
 -- begins a header
@@ -43,6 +43,9 @@ line_feed = 0x0A
 -- a printable character, CR or LF
 unfoldable pub is_text : ℕ → Bool
 is_text b = is_in_range 0x20 0x7E b || b == carriage_return || b == line_feed
+
+abbrev pub is_no_text : ℕ → Bool
+is_no_text b = not (is_text b)
 
 -- what may stand behind the id of a segment: `*` or its terminator
 abbrev pub ends_id : ℕ → Bool

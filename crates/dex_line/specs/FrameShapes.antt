@@ -1,5 +1,5 @@
 -- What a contract sees of a frame: its kind, with the list of its text.
-use Rattle.std.specs.Prelude.{ℕ, Bool, List, Option, Some, None}
+use Rattle.std.specs.Prelude.{ℕ, Bool, List, [], ◌∷◌, Option, Some, None}
 use Rattle.dex_line.specs.declared.frame.Frame.{Frame}
 use Rattle.dex_line.specs.declared.frame.Frame.TheVariants as frames
 
@@ -31,3 +31,8 @@ frame_seen frames.Bad = Bad
 abbrev pub answer_seen : Option Frame → Option FrameShape
 answer_seen None = None
 answer_seen (Some frame) = Some (frame_seen frame)
+
+-- the same as a list
+abbrev pub shapes_seen : Option Frame → List FrameShape
+shapes_seen None = []
+shapes_seen (Some frame) = frame_seen frame ∷ []

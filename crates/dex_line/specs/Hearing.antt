@@ -28,9 +28,12 @@ pub record Hearing : Type 0 where
   pub begun : List ℕ
   pub shapes : List FrameShape
 
+abbrev pub hearing : List ℕ → List FrameShape → Hearing
+hearing begun shapes = record { begun = begun; shapes = shapes }
+
 abbrev pub after_answer : List FrameShape → List ℕ → Option FrameShape → Hearing
-after_answer shapes bytes None = record { begun = bytes; shapes = shapes }
-after_answer shapes bytes (Some shape) = record { begun = []; shapes = shapes ++ shape ∷ [] }
+after_answer shapes bytes None = hearing bytes shapes
+after_answer shapes bytes (Some shape) = hearing [] (shapes ++ shape ∷ [])
 
 -- one push
 abbrev pub hear : Hearing → ℕ → Hearing
@@ -41,7 +44,7 @@ abbrev pub hear_all : Hearing → List ℕ → Hearing
 hear_all heard bytes = fold hear heard bytes
 
 abbrev pub nothing_heard : Hearing
-nothing_heard = record { begun = []; shapes = [] }
+nothing_heard = hearing [] []
 
 abbrev pub AreSpoken : List FrameShape → Type 0
 AreSpoken [] = Unit {0}

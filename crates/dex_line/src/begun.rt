@@ -1,13 +1,13 @@
 //! The bytes since the last answer, taken apart as they come.
 
-ghost use Rattle.std.specs.Prelude.{◌≡◌, ◌∷◌, [], length};
+ghost use Rattle.std.specs.Prelude.{◌≡◌, ◌≤◌, ◌∷◌, ◌++◌, [], length, take};
 ghost use Rattle.dex_line.specs.Bytes.{dle};
 ghost use Rattle.dex_line.specs.FrameShapes.{answer_seen, frame_seen};
 ghost use Rattle.dex_line.specs.FrameSpelling.{IsTextOf};
 ghost use Rattle.dex_line.specs.Judging.{closed};
 ghost use Rattle.dex_line.specs.Scanning.{begun, begun_with, judged_at, kept, IsSound};
 
-use super::bytes::{DLE, ENQ, EOT, ETX, NAK, SOH, STX, is_text_byte};
+use super::bytes::{DLE, ENQ, EOT, ETX, NAK, SOH, STX, is_text_byte, text_run};
 use super::frame::{BLOCK_READ, Frame, Opened, block_text, header_text};
 use arrayvec::ArrayVec;
 use block_check::Running;
@@ -52,6 +52,35 @@ impl Begun {
             Stage::Check(opened, closing) => self.take_low(opened, closing, byte),
             Stage::Low(opened, closing, low) => self.take_high(opened, closing, low, byte),
         }
+    }
+
+    /// Takes at once the bytes that go on a text, and tells how many they are.
+    #[tactic(auto, using(crate::proofs::Judged::grown_none))]
+    pub(crate) fn take_text(&mut self, bytes: &[u8]) -> usize
+        requires { IsSound self.old.stage self.old.text.items self.old.check }
+        ensures inside { result ≤ length bytes.now }
+        ensures left { begun self.new.stage self.new.text.items ≡ begun self.old.stage self.old.text.items ++ take result bytes.now }
+        ensures sound { IsSound self.new.stage self.new.text.items self.new.check }
+    {
+        match self.stage {
+            Stage::Text(opened) => self.take_run(opened, bytes),
+            _ => 0,
+        }
+    }
+
+    #[tactic(auto, using(crate::proofs::Judged::text_goes_on))]
+    fn take_run(&mut self, opened: Opened, bytes: &[u8]) -> usize
+        requires stage { self.old.stage ≡ Stage.Text opened }
+        requires sound { IsSound (Stage.Text opened) self.old.text.items self.old.check }
+        ensures inside { result ≤ length bytes.now }
+        ensures stage { self.new.stage ≡ Stage.Text opened }
+        ensures text { self.new.text.items ≡ self.old.text.items ++ take result bytes.now }
+        ensures sound { IsSound (Stage.Text opened) self.new.text.items self.new.check }
+    {
+        let run = text_run(bytes, opened.limit() - self.text.len());
+        let _ = self.text.try_extend_from_slice(run);
+        self.check.take_all(run);
+        run.len()
     }
 
     fn start(&mut self, byte: u8) -> Option<Frame>

@@ -1,7 +1,8 @@
 //! The control bytes of a line, and what a text may hold.
 
-ghost use Rattle.std.specs.Prelude.{◌≡◌};
-ghost use Rattle.dex_line.specs.Bytes.{ends_id, is_text};
+ghost use Rattle.std.specs.Prelude.{◌≡◌, ◌≤◌, true, length, take, position};
+ghost use Rattle.std.specs.List.{list_all, position_or_len};
+ghost use Rattle.dex_line.specs.Bytes.{ends_id, is_no_text, is_text};
 
 pub(crate) const SOH: u8 = 0x01;
 
@@ -25,6 +26,35 @@ pub(crate) fn is_text_byte(byte: u8) -> bool
     ensures { result ≡ is_text byte }
 {
     (b' '..=b'~').contains(&byte) || byte == b'\r' || byte == b'\n'
+}
+
+/// The text bytes at the front, at most so many of them.
+#[tactic(auto, using(crate::proofs::Judged::text_before))]
+pub(crate) fn text_run(bytes: &[u8], most: usize) -> &[u8]
+    ensures front { result.now ≡ take (length result.now) bytes.now }
+    ensures inside { length result.now ≤ length bytes.now }
+    ensures most { length result.now ≤ most }
+    ensures text { list_all is_text result.now ≡ true }
+{
+    let room = &bytes[..most.min(bytes.len())];
+    &room[..text_len(room)]
+}
+
+/// How many text bytes stand at the front.
+#[tactic(auto, using(crate::proofs::Judged::none_other))]
+fn text_len(bytes: &[u8]) -> usize
+    ensures { result ≡ position_or_len is_no_text bytes.now }
+{
+    match first_other(bytes) {
+        Some(place) => place,
+        None => bytes.len(),
+    }
+}
+
+fn first_other(bytes: &[u8]) -> Option<usize>
+    ensures { result ≡ position is_no_text bytes.now }
+{
+    bytes.iter().position(|&byte| !is_text_byte(byte))
 }
 
 /// What may stand behind the id of a segment.

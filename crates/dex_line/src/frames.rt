@@ -63,14 +63,13 @@ fn first_frame(scanner: &mut Scanner, bytes: &[u8]) -> Option<(Frame, usize)>
     ensures found { MatchOption result (bytes.now ≡ []) (λ x. IsFrameOfSize (frame_seen x.0) bytes.now x.1) }
     ensures left { scanner.new ≡ [] }
 {
-    let mut size = 0;
-    for &byte in bytes {
-        size += 1;
-        if let Some(frame) = scanner.push(byte) {
-            return Some((frame, size));
-        }
+    let (size, answer) = scanner.hear(bytes);
+    if let Some(frame) = answer {
+        return Some((frame, size));
     }
-    let frame = scanner.quiet()?;
+    let Some(frame) = scanner.quiet() else {
+        return None;
+    };
     Some((frame, size))
 }
 

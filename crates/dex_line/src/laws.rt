@@ -7,7 +7,7 @@ ghost use Rattle.dex_line.specs.Captured.{frames_in, with_places, FramesIn, IsCo
 ghost use Rattle.dex_line.specs.declared.frame.Opened.{Opened};
 ghost use Rattle.dex_line.specs.FrameShapes.{Block, Damaged, FrameShape};
 ghost use Rattle.dex_line.specs.FrameSpelling.{high_check, is_closing, low_check, spelling, wrapped, Answers, IsSpoken, IsTextOf, Spelled};
-ghost use Rattle.dex_line.specs.Hearing.{hear_all, nothing_heard, AreSpoken, HeardAs};
+ghost use Rattle.dex_line.specs.Hearing.{hear_all, hearing, nothing_heard, AreSpoken, HeardAs};
 ghost use Rattle.dex_line.specs.Judging.{judge};
 ghost use Rattle.dex_line.specs.Occurrence.{AreItems, IsCutShort, IsOneItem, Occurs, OccursBetween};
 ghost use Rattle.dex_line.specs.TextUnits.{UnitsFit};
@@ -35,14 +35,14 @@ pub fn streams_are_heard_whole()
     ensures pieces { (pieces : List (List ℕ)) → fold hear_all nothing_heard pieces ≡ hear_all nothing_heard (concat pieces) }
     ensures frames { (bytes : List ℕ) → HeardAs bytes (hear_all nothing_heard bytes).shapes (hear_all nothing_heard bytes).begun }
     ensures only { (bytes : List ℕ) (shapes : List FrameShape) (rest : List ℕ) → HeardAs bytes shapes rest
-        → hear_all nothing_heard bytes ≡ record { begun = rest; shapes = shapes } }
+        → hear_all nothing_heard bytes ≡ hearing rest shapes }
 {}
 
 /// What is spelled is heard: frames, the last one perhaps cut short, are heard as themselves, and no bytes are two such
 /// lists.
 pub fn spoken_frames_are_heard()
     ensures heard { (shapes : List FrameShape) (cut : List ℕ) → AreSpoken shapes → IsCutShort cut
-        → hear_all nothing_heard (flat_map spelling shapes ++ cut) ≡ record { begun = cut; shapes = shapes } }
+        → hear_all nothing_heard (flat_map spelling shapes ++ cut) ≡ hearing cut shapes }
     ensures one { (a b : List FrameShape) (v w : List ℕ) → AreSpoken a → AreSpoken b → IsCutShort v → IsCutShort w
         → flat_map spelling a ++ v ≡ flat_map spelling b ++ w → (a ≡ b) × (v ≡ w) }
 {}

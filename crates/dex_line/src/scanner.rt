@@ -1,8 +1,9 @@
 //! A scanner, which finds the frames in bytes that come one at a time.
 
-ghost use Rattle.std.specs.Prelude.{◌≡◌, ◌++◌, ◌∷◌, []};
-ghost use Rattle.dex_line.specs.FrameShapes.{answer_seen};
-ghost use Rattle.dex_line.specs.FrameSpelling.{Answers};
+ghost use Rattle.std.specs.Prelude.{◌≡◌, ◌≤◌, ◌-◌, ◌++◌, ◌∷◌, [], length, take, drop, IsSome, IsNone};
+ghost use Rattle.dex_line.specs.FrameShapes.{answer_seen, shapes_seen};
+ghost use Rattle.dex_line.specs.FrameSpelling.{Answers, IsBegun};
+ghost use Rattle.dex_line.specs.Hearing.{hear_all, hearing};
 ghost use Rattle.dex_line.specs.Judging.{judge};
 ghost use Rattle.dex_line.specs.Scanning.{kept, quieted};
 
@@ -62,6 +63,39 @@ impl Scanner {
         ensures left { self.new ≡ kept result (self.old ++ byte ∷ []) }
     {
         self.begun.push(byte)
+    }
+
+    /// Hears bytes up to the first answer, as one `push` after another would. Tells how many it has taken, and the answer.
+    pub fn hear(&mut self, bytes: &[u8]) -> (usize, Option<Frame>)
+        ensures inside { result.0 ≤ length bytes.now }
+        ensures heard { hear_all (hearing self.old []) (take result.0 bytes.now) ≡ hearing self.new (shapes_seen result.1) }
+        // All are taken where there is no answer, and nothing has begun behind one.
+        ensures all { IsNone result.1 → result.0 ≡ length bytes.now }
+        ensures left { IsSome result.1 → self.new ≡ [] }
+    {
+        let mut place = 0;
+        loop {
+            place = self.take_text(bytes, place);
+            if place == bytes.len() {
+                return (place, None);
+            }
+            let answer = self.push(bytes[place]);
+            place += 1;
+            if answer.is_some() {
+                return (place, answer);
+            }
+        }
+    }
+
+    /// Takes at once the bytes from this place on that go on a text. Tells the place behind them.
+    fn take_text(&mut self, bytes: &[u8], place: usize) -> usize
+        requires { place ≤ length bytes.now }
+        ensures onward { place ≤ result }
+        ensures inside { result ≤ length bytes.now }
+        ensures left { self.new ≡ self.old ++ take (result - place) (drop place bytes.now) }
+        ensures begun { IsBegun self.new }
+    {
+        place + self.begun.take_text(&bytes[place..])
     }
 
     /// Hears a silence. What has begun is dropped, and is `Bad`.
