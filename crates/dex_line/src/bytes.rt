@@ -25,7 +25,7 @@ pub(crate) const ETB: u8 = 0x17;
 pub(crate) fn is_text_byte(byte: u8) -> bool
     ensures { result ≡ is_text byte }
 {
-    (b' '..=b'~').contains(&byte) || byte == b'\r' || byte == b'\n'
+    matches!(byte, b' '..=b'~') || matches!(byte, b'\r' | b'\n')
 }
 
 /// The text bytes at the front, at most so many of them.

@@ -9,6 +9,8 @@ mod frames;
 pub mod laws;
 mod scanner;
 mod spelling;
+#[cfg(test)]
+mod tests;
 mod units;
 
 pub use cutter::{BLOCK_WRITTEN, Cutter};
