@@ -1,0 +1,13 @@
+pub mod Judged
+pub mod Told
+pub mod Answered
+pub mod Heard
+pub mod Many
+pub mod Spoken
+pub mod Pieces
+pub mod Captures
+pub mod Covered
+pub mod UnitCuts
+pub mod Exists
+pub mod Fewest
+pub mod Occurrences

@@ -1,0 +1,10 @@
+pub mod Bytes
+pub mod FrameShapes
+pub mod FrameSpelling
+pub mod Judging
+pub mod Scanning
+pub mod Hearing
+pub mod Captured
+pub mod TextUnits
+pub mod BlockCut
+pub mod Occurrence

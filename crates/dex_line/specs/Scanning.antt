@@ -1,0 +1,69 @@
+-- Where a scanner stands: the bytes since its last answer, by its stage and the text that it keeps.
+use Rattle.std.specs.Prelude.{◌≡◌, ℕ, ◌≤◌, true, List, [], ◌∷◌, ◌++◌, length, Option, Some, None, ⊤}
+use Rattle.std.specs.List.{list_all}
+use Rattle.block_check.specs.Crc16.{crc_of}
+use Rattle.dex_line.specs.Bytes.{dle, is_text}
+use Rattle.dex_line.specs.FrameShapes.{FrameShape, Bad}
+use Rattle.dex_line.specs.FrameSpelling.{is_closing, most_text, opening, IsTextOf}
+use Rattle.dex_line.specs.Judging.{judge, judge_marked, judge_text, judge_closing, judge_check}
+use Rattle.dex_line.specs.declared.frame.Opened.{Opened}
+use Rattle.dex_line.specs.declared.begun.Stage.{Stage}
+use Rattle.dex_line.specs.declared.begun.Stage.TheVariants.{Idle, Marked, Text, Closing, Check, Low}
+
+-- the bytes since the last answer
+abbrev pub begun : Stage → List ℕ → List ℕ
+begun Idle text = []
+begun Marked text = dle ∷ []
+begun (Text opened) text = dle ∷ opening opened ∷ text
+begun (Closing opened) text = dle ∷ opening opened ∷ (text ++ dle ∷ [])
+begun (Check opened closing) text = dle ∷ opening opened ∷ (text ++ dle ∷ closing ∷ [])
+begun (Low opened closing low) text = dle ∷ opening opened ∷ (text ++ dle ∷ closing ∷ low ∷ [])
+
+-- the same with one more byte
+abbrev pub begun_with : Stage → List ℕ → ℕ → List ℕ
+begun_with Idle text b = b ∷ []
+begun_with Marked text b = dle ∷ b ∷ []
+begun_with (Text opened) text b = dle ∷ opening opened ∷ (text ++ b ∷ [])
+begun_with (Closing opened) text b = dle ∷ opening opened ∷ (text ++ dle ∷ b ∷ [])
+begun_with (Check opened closing) text b = dle ∷ opening opened ∷ (text ++ dle ∷ closing ∷ b ∷ [])
+begun_with (Low opened closing low) text b = dle ∷ opening opened ∷ (text ++ dle ∷ closing ∷ low ∷ b ∷ [])
+
+-- what they are with it
+abbrev pub judged_at : Stage → List ℕ → ℕ → Option FrameShape
+judged_at Idle text b = judge (b ∷ [])
+judged_at Marked text b = judge_marked (b ∷ [])
+judged_at (Text opened) text b = judge_text opened text (b ∷ [])
+judged_at (Closing opened) text b = judge_closing opened text (b ∷ [])
+judged_at (Check opened closing) text b = None
+judged_at (Low opened closing low) text b = judge_check opened text closing (low ∷ b ∷ [])
+
+-- text so far, with its running check
+pub record IsTextSoFar (opened : Opened) (text : List ℕ) (check : ℕ) : Type 0 where
+  pub fits : length text ≤ most_text opened
+  pub bytes : list_all is_text text ≡ true
+  pub running : check ≡ crc_of text
+
+-- a whole text with its closing byte, and the check of both
+pub record IsTextClosed (opened : Opened) (closing : ℕ) (text : List ℕ) (check : ℕ) : Type 0 where
+  pub whole : IsTextOf opened text
+  pub closes : is_closing opened closing ≡ true
+  pub running : check ≡ crc_of (text ++ closing ∷ [])
+
+-- the text and the check that are kept fit the stage
+abbrev pub IsSound : Stage → List ℕ → ℕ → Type 0
+IsSound Idle text check = ⊤
+IsSound Marked text check = ⊤
+IsSound (Text opened) text check = IsTextSoFar opened text check
+IsSound (Closing opened) text check = IsTextOf opened text × (check ≡ crc_of text)
+IsSound (Check opened closing) text check = IsTextClosed opened closing text check
+IsSound (Low opened closing low) text check = IsTextClosed opened closing text check
+
+-- what is left of the bytes: with an answer they begin anew
+abbrev pub kept : {A : Type 0} → Option A → List ℕ → List ℕ
+kept None bytes = bytes
+kept (Some answer) bytes = []
+
+-- a silence drops what has begun, and tells that something had
+abbrev pub quieted : List ℕ → Option FrameShape
+quieted [] = None
+quieted (b ∷ more) = Some Bad

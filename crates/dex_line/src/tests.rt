@@ -1,0 +1,123 @@
+use super::*;
+use arrayvec::ArrayVec;
+
+/// A turn: an enquiry, its reply, the last block with the text `A`, and the end.
+const TURN: [u8; 11] = [
+    0x05, 0x10, 0x30, 0x10, 0x02, 0x41, 0x10, 0x03, 0x70, 0x51, 0x04,
+];
+
+fn kind(frame: &Frame) -> &'static str {
+    match frame {
+        Frame::Enq => "ENQ",
+        Frame::Ack0 => "ACK0",
+        Frame::Ack1 => "ACK1",
+        Frame::Nak => "NAK",
+        Frame::Eot => "EOT",
+        Frame::Header(_) => "HEADER",
+        Frame::Block { last: false, .. } => "BLOCK",
+        Frame::Block { last: true, .. } => "LAST",
+        Frame::Damaged => "DAMAGED",
+        Frame::Bad => "BAD",
+    }
+}
+
+/// How many frames captured bytes have, and the place and kind of the last one.
+fn walk(bytes: &[u8]) -> (usize, usize, &'static str) {
+    let mut frames = Frames::new(bytes);
+    let mut found = (0, 0, "NONE");
+    for count in 1..=bytes.len() {
+        let Some((place, frame)) = frames.next() else {
+            return found;
+        };
+        found = (count, place, kind(&frame));
+    }
+    found
+}
+
+/// What a walk over the turn finds where the byte at a place is another one.
+fn walk_with(place: usize, byte: u8) -> (usize, usize, &'static str) {
+    match (place, byte) {
+        (0, 0x04 | 0x15) | (2, 0x31) | (4, 0x01) => (4, 10, "EOT"),
+        (0, _) => (1, 0, "BAD"),
+        (1, 0x04 | 0x05 | 0x15) => (3, 2, "BAD"),
+        (1 | 2, _) => (2, 1, "BAD"),
+        (3, 0x04 | 0x05 | 0x15) => (4, 4, "BAD"),
+        (4, 0x30 | 0x31) => (4, 5, "BAD"),
+        (5, 0x20..=0x7E | 0x0D | 0x0A) | (7, 0x17) | (8 | 9, _) => (3, 3, "DAMAGED"),
+        (10, 0x05) => (4, 10, "ENQ"),
+        (10, 0x15) => (4, 10, "NAK"),
+        (10, _) => (4, 10, "BAD"),
+        _ => (3, 3, "BAD"),
+    }
+}
+
+#[test]
+fn each_changed_byte_is_seen(rt: HostRuntime) {
+    assert_eq!(rt; walk(&TURN), (4, 10, "EOT"));
+    for place in 0..TURN.len() {
+        for byte in 0..=u8::MAX {
+            let mut bytes = TURN;
+            bytes[place] = byte;
+            if byte != TURN[place] {
+                assert_eq!(rt; walk(&bytes), walk_with(place, byte), "{byte} at {place}");
+            }
+        }
+    }
+}
+
+#[test]
+#[tactic(auto, unfolding(crate::specs::Bytes::is_text))]
+fn frames_are_spelled(rt: HostRuntime) {
+    assert_eq!(rt; spell(&Frame::Ack0).as_slice(), [0x10, 0x30].as_slice());
+    for (last, want) in [
+        (true, [0x10, 0x02, 0x41, 0x10, 0x03, 0x70, 0x51]),
+        (false, [0x10, 0x02, 0x41, 0x10, 0x17, 0x70, 0x5e]),
+    ] {
+        let mut text = ArrayVec::new();
+        text.push(b'A');
+        assert_eq!(rt;
+            spell(&Frame::Block { last, text }).as_slice(),
+            want.as_slice()
+        );
+    }
+}
+
+/// How many bytes are taken up to the first answer, and its kind.
+fn hear(bytes: &[u8]) -> (usize, &'static str) {
+    let (taken, answer) = Scanner::new().hear(bytes);
+    match answer {
+        Some(frame) => (taken, kind(&frame)),
+        None => (taken, "NONE"),
+    }
+}
+
+#[test]
+fn texts_have_limits(rt: HostRuntime) {
+    let mut block = [b'A'; 518];
+    (block[0], block[1]) = (0x10, 0x02);
+    assert_eq!(rt; hear(&block), (515, "BAD"));
+    (block[514], block[515], block[516], block[517]) = (0x10, 0x03, 0x22, 0x95);
+    assert_eq!(rt; hear(&block), (518, "LAST"));
+    let mut header = [b'A'; 38];
+    (header[0], header[1]) = (0x10, 0x01);
+    assert_eq!(rt; hear(&header), (35, "BAD"));
+    (header[34], header[35], header[36], header[37]) = (0x10, 0x03, 0x85, 0x2f);
+    assert_eq!(rt; hear(&header), (38, "HEADER"));
+}
+
+#[test]
+fn a_silence_drops_what_has_begun(rt: HostRuntime) {
+    let mut scanner = Scanner::new();
+    assert!(rt; scanner.quiet().is_none());
+    assert!(rt; scanner.push(0x10).is_none());
+    assert!(rt; matches!(scanner.quiet(), Some(Frame::Bad)));
+    assert!(rt; matches!(scanner.push(0x05), Some(Frame::Enq)));
+}
+
+#[test]
+#[tactic(auto, unfolding(crate::specs::TextUnits::lines_of, crate::specs::TextUnits::paired, crate::specs::TextUnits::units_of))]
+fn a_text_is_cut(rt: HostRuntime) {
+    let mut cutter = Cutter::new(b"G85*5170\r\nSE*2*1\r\n");
+    assert!(rt; matches!(cutter.next(), Some((b"G85*5170\r\nSE*2*1\r\n", true))));
+    assert!(rt; cutter.next().is_none());
+}
