@@ -1,0 +1,59 @@
+//! Costs of a unit.
+
+ghost use Rattle.std.specs.Prelude.{◌≡◌, ◌≤◌};
+ghost use Rattle.dsd_values.specs.Reading.{cost_of};
+
+use crate::decimal::read_decimal;
+use crate::fault::ValueFault;
+use std::marker::Model;
+
+/// The cost of a unit, in ten-thousandths of a unit of money.
+#[derive(Clone, Copy, Debug, PartialEq, Eq, PartialOrd, Ord)]
+pub struct Cost {
+    value: u64,
+}
+
+impl Model for Cost {
+    ghost use Rattle.std.specs.Prelude.{ℕ, ◌≤◌};
+
+    ghost Value = { ℕ };
+
+    ghost view = { λ cost. cost.value };
+
+    ghost invariant = { λ cost. cost.value ≤ 999_999_999 };
+
+    ghost inverse = { λ n. record { value = n } };
+}
+
+impl Cost {
+    /// The greatest cost.
+    pub const MAX: u64 = 999_999_999;
+
+    pub fn new(value: u64) -> Cost
+        requires { value ≤ Self.MAX }
+        ensures { result ≡ value }
+    {
+        Cost { value }
+    }
+
+    pub fn get(self) -> u64
+        ensures value { result ≡ self }
+        ensures within { result ≤ Self.MAX }
+    {
+        self.value
+    }
+}
+
+/// How many digits may stand after the point of a cost.
+pub const COST_DECIMALS: u32 = 4;
+
+/// The cost that digits write, with a point and up to four decimals where it has some.
+pub fn read_cost(text: &[u8]) -> Result<Cost, ValueFault>
+    ensures exact { result ≡ cost_of text.now }
+{
+    let number = read_decimal(text, COST_DECIMALS)?;
+    if number > Cost::MAX {
+        return Err(ValueFault::OutOfRange);
+    }
+    Ok(Cost::new(number))
+}

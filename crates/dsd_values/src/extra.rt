@@ -1,0 +1,77 @@
+//! What follows a line, or stands at record level.
+
+ghost use Rattle.std.specs.Prelude.{◌≡◌, [], ◌∷◌, ◌++◌, IfOk, OnErr, OnOk};
+
+use crate::allowance::Allowance;
+use crate::fault::Memory;
+use crate::kept::Kept;
+use std::alloc::Global;
+use std::marker::Model;
+
+/// An allowance, or a note that changes no price.
+#[derive(Debug, Drop)]
+pub enum Extra {
+    Allow(Allowance),
+    /// The id and the elements of the note's segment, joined by `*`.
+    Note(Kept),
+}
+
+impl Extra {
+    pub fn try_copy(&self, alloc: Global) -> Result<Extra, Memory>
+        ensures { IfOk result (λ copy. copy ≡ self.now) }
+    {
+        match self {
+            Extra::Allow(allowance) => Ok(Extra::Allow(allowance.try_copy(alloc)?)),
+            Extra::Note(note) => Ok(Extra::Note(note.try_copy(alloc)?)),
+        }
+    }
+}
+
+/// A list of extras.
+#[derive(Debug, Drop)]
+pub struct Extras {
+    items: Vec<Extra>,
+}
+
+impl Model for Extras {
+    ghost use Rattle.std.specs.Prelude.{List};
+    ghost use Rattle.dsd_values.specs.declared.extra.Extra.{Extra as Item};
+
+    ghost Value = { List Item };
+
+    ghost view = { λ extras. extras.items.items };
+}
+
+impl Extras {
+    pub fn new(alloc: Global) -> Extras
+        ensures { result ≡ [] }
+    {
+        Extras {
+            items: Vec::new(alloc),
+        }
+    }
+
+    pub fn push(&mut self, item: Extra) -> Result<(), Memory>
+        ensures ok { OnOk result (self.new ≡ self.old ++ item ∷ []) }
+        ensures err { OnErr result (self.new ≡ self.old) }
+    {
+        self.items.push(item)?;
+        Ok(())
+    }
+
+    pub fn as_slice(&self) -> &[Extra]
+        ensures { result.now ≡ self.now }
+    {
+        self.items.as_slice()
+    }
+
+    pub fn try_copy(&self, alloc: Global) -> Result<Extras, Memory>
+        ensures { IfOk result (λ copy. copy ≡ self.now) }
+    {
+        let mut copy = Extras::new(alloc);
+        for item in self.items.iter() {
+            copy.push(item.try_copy(alloc)?)?;
+        }
+        Ok(copy)
+    }
+}

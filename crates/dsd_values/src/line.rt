@@ -1,0 +1,101 @@
+//! Lines of a delivery.
+
+ghost use Rattle.std.specs.Prelude.{◌≡◌, [], ◌∷◌, ◌++◌, IfOk, OnErr, OnOk};
+
+use crate::cost::Cost;
+use crate::dsd_number::DsdNumber;
+use crate::extra::Extras;
+use crate::fault::Memory;
+use crate::kept::Kept;
+use crate::quantity::Quantity;
+use crate::word::Word;
+use std::alloc::Global;
+use std::marker::Model;
+
+/// One product of a delivery: the elements of a G83 or a G89 in their order, and what follows it.
+#[derive(Debug, Drop)]
+pub struct Line {
+    pub dsd: DsdNumber,
+    pub quantity: Quantity,
+    pub unit: Word,
+    pub upc: Word,
+    pub qualifier: Word,
+    pub id: Word,
+    pub case_code: Word,
+    pub cost: Cost,
+    pub pack: Word,
+    pub label: Word,
+    /// The elements behind the label, joined by `*`.
+    pub tail: Kept,
+    pub extras: Extras,
+}
+
+impl Line {
+    pub fn try_copy(&self, alloc: Global) -> Result<Line, Memory>
+        ensures { IfOk result (λ copy. copy ≡ self.now) }
+    {
+        Ok(Line {
+            dsd: self.dsd,
+            quantity: self.quantity,
+            unit: self.unit.copy(),
+            upc: self.upc.copy(),
+            qualifier: self.qualifier.copy(),
+            id: self.id.copy(),
+            case_code: self.case_code.copy(),
+            cost: self.cost,
+            pack: self.pack.copy(),
+            label: self.label.copy(),
+            tail: self.tail.try_copy(alloc)?,
+            extras: self.extras.try_copy(alloc)?,
+        })
+    }
+}
+
+/// A list of lines.
+#[derive(Debug, Drop)]
+pub struct Lines {
+    items: Vec<Line>,
+}
+
+impl Model for Lines {
+    ghost use Rattle.std.specs.Prelude.{List};
+    ghost use Rattle.dsd_values.specs.declared.line.Line.{Line as Item};
+
+    ghost Value = { List Item };
+
+    ghost view = { λ lines. lines.items.items };
+}
+
+impl Lines {
+    pub fn new(alloc: Global) -> Lines
+        ensures { result ≡ [] }
+    {
+        Lines {
+            items: Vec::new(alloc),
+        }
+    }
+
+    pub fn push(&mut self, item: Line) -> Result<(), Memory>
+        ensures ok { OnOk result (self.new ≡ self.old ++ item ∷ []) }
+        ensures err { OnErr result (self.new ≡ self.old) }
+    {
+        self.items.push(item)?;
+        Ok(())
+    }
+
+    pub fn as_slice(&self) -> &[Line]
+        ensures { result.now ≡ self.now }
+    {
+        self.items.as_slice()
+    }
+
+    pub fn try_copy(&self, alloc: Global) -> Result<Lines, Memory>
+        ensures { IfOk result (λ copy. copy ≡ self.now) }
+    {
+        let mut copy = Lines::new(alloc);
+        for item in self.items.iter() {
+            copy.push(item.try_copy(alloc)?)?;
+        }
+        Ok(copy)
+    }
+}

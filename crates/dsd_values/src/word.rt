@@ -1,0 +1,102 @@
+//! Words: the texts of elements that have no further form.
+
+ghost use Rattle.std.specs.Prelude.{◌≡◌, ◌≤◌, length, position};
+ghost use Rattle.dsd_values.specs.Reading.{IsElementText, filled_word_of, is_no_element_byte, word_between, word_of};
+
+use crate::fault::ValueFault;
+use crate::limits::WORD_BYTES;
+use arrayvec::ArrayVec;
+use std::marker::Model;
+
+/// A text of at most 35 element characters: 20 to 7E hexadecimal other than `*`.
+#[derive(Debug, Drop)]
+pub struct Word {
+    text: ArrayVec<u8, 35>,
+}
+
+impl Model for Word {
+    ghost use Rattle.std.specs.Prelude.{◌≤◌, ℕ, List, length};
+    ghost use Rattle.dsd_values.specs.Reading.{IsElementText};
+    ghost use Rattle.dsd_values.specs.declared.limits.TheConstants.{WORD_BYTES};
+
+    ghost Value = { List ℕ };
+
+    ghost view = { λ word. word.text.items };
+
+    ghost invariant = { λ word. IsElementText word.text.items × (length word.text.items ≤ WORD_BYTES) };
+}
+
+impl Word {
+    pub fn as_slice(&self) -> &[u8]
+        ensures value { result.now ≡ self.now }
+        ensures characters { IsElementText result.now }
+        ensures short { length result.now ≤ WORD_BYTES }
+    {
+        self.text.as_slice()
+    }
+
+    /// An equal word.
+    pub fn copy(&self) -> Word
+        ensures { result ≡ self.now }
+    {
+        copied(self.text.as_slice())
+    }
+}
+
+/// The word that is the text. The empty text is the empty word.
+pub fn read_word(text: &[u8]) -> Result<Word, ValueFault>
+    ensures exact { result ≡ word_of text.now }
+{
+    if text.len() > WORD_BYTES {
+        return Err(ValueFault::TooLong(text.len()));
+    }
+    match first_outside(text) {
+        Some(place) => Err(ValueFault::NotDigit(place)),
+        None => Ok(copied(text)),
+    }
+}
+
+/// The word that is the text, which may not be empty.
+pub fn read_filled_word(text: &[u8]) -> Result<Word, ValueFault>
+    ensures exact { result ≡ filled_word_of text.now }
+{
+    if text.is_empty() {
+        return Err(ValueFault::Empty);
+    }
+    read_word(text)
+}
+
+/// The word that is the text, which has a least and a most length of its own, in bytes.
+pub fn read_word_between(text: &[u8], least: usize, most: usize) -> Result<Word, ValueFault>
+    requires { most ≤ WORD_BYTES }
+    ensures exact { result ≡ word_between least most text.now }
+{
+    if text.is_empty() {
+        return Err(ValueFault::Empty);
+    }
+    if text.len() > most {
+        return Err(ValueFault::TooLong(text.len()));
+    }
+    match first_outside(text) {
+        Some(place) => Err(ValueFault::NotDigit(place)),
+        None if text.len() < least => Err(ValueFault::OutOfRange),
+        None => Ok(copied(text)),
+    }
+}
+
+fn first_outside(text: &[u8]) -> Option<usize>
+    ensures { result ≡ position is_no_element_byte text.now }
+{
+    text.iter()
+        .position(|byte| !(0x20..=0x7E).contains(byte) || *byte == b'*')
+}
+
+fn copied(text: &[u8]) -> Word
+    requires characters { IsElementText text.now }
+    requires short { length text.now ≤ WORD_BYTES }
+    ensures { result ≡ text.now }
+{
+    let mut copy = ArrayVec::new();
+    let _ = copy.try_extend_from_slice(text);
+    Word { text: copy }
+}
