@@ -1,0 +1,24 @@
+-- When a call to the outside may answer that it failed, and what a sink takes.
+use Rattle.std.specs.Prelude.{◌≡◌, ℕ, ◌+◌, ◌-◌, ◌^◌, ◌<◌, ◌≤◌, min, List, ◌++◌, length, Option, Result, IfOk, OnErr}
+use Rattle.std.specs.Io.KnownBytes.{Appends, Consumes}
+
+-- the count of faults has gone up by one or more, or stands at the last value of its type
+abbrev pub Rose : ℕ → ℕ → Type 0
+Rose before now = min (before + 1) (2 ^ 64 - 1) ≤ now
+
+-- a count of faults never falls, and a call fails only where it rose
+pub record HasCause {T E : Type 0} (before now : ℕ) (result : Result T E) : Type 0 where
+  pub later : before ≤ now
+  pub failed : OnErr result (Rose before now)
+
+-- a write takes no more than the piece, and at least one byte of a piece that is not empty
+abbrev pub TakesSome : {E : Type 0} → Result ℕ E → List ℕ → Type 0
+TakesSome result piece = IfOk result (λ n. (n ≤ length piece) × (0 < length piece → 0 < n))
+
+-- some first part of the text was added to what was written, and nothing else
+abbrev pub WritesFront : Option (List ℕ) → Option (List ℕ) → List ℕ → Type 0
+WritesFront old new text = (front rest : List ℕ) × (text ≡ front ++ rest) × Appends old new front
+
+-- some first part of the bytes that were left was taken, of no more bytes than the limit
+abbrev pub TakesUpTo : ℕ → Option (List ℕ) → Option (List ℕ) → Type 0
+TakesUpTo limit old new = (front : List ℕ) × (length front ≤ limit) × Consumes old new front

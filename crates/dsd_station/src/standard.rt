@@ -1,0 +1,101 @@
+ghost use Rattle.std.specs.Prelude.{◌≡◌, ℕ};
+ghost use Rattle.std.specs.Io.{ReadsAtMost, WritesAtMost};
+ghost use Rattle.std.specs.Io.KnownBytes.{Keeps, ReadConsumes, WriteAppends};
+
+use crate::{Failed, Sink, Source};
+use std::io;
+use std::io::{ErrorKind, Read, Write};
+
+/// How often in a row a call is made again that a signal interrupted. After that it counts as a fault.
+const MOST_INTERRUPTS: u32 = 1_000_000;
+
+/// A reader of std as a source: standard input in the program. It buffers nothing, and tells what its reader
+/// tells. A read that a signal interrupts is made again and is no fault, as in `read_to_end`.
+#[derive(Drop)]
+pub struct StdSource<R: Read> {
+    reader: R,
+    faults: u64,
+}
+
+impl<R: Read> StdSource<R> {
+    pub fn new(reader: R) -> Self {
+        StdSource { reader, faults: 0 }
+    }
+}
+
+impl<R: Read> Source for StdSource<R> {
+    ghost left = { λ s. R.remaining s.reader };
+
+    ghost faults = { λ s. s.faults };
+
+    fn read(&mut self, into: &mut [u8]) -> Result<usize, Failed> {
+        match read_again(&mut self.reader, into) {
+            Ok(count) => Ok(count),
+            Err(_) => {
+                self.faults = self.faults.saturating_add(1);
+                Err(Failed)
+            }
+        }
+    }
+}
+
+/// A writer of std as a sink: standard output in the program. It buffers nothing, and tells what its writer
+/// tells. A write that a signal interrupts is made again and is no fault, as in `write_all`. One that takes
+/// nothing of a piece that is not empty is a fault.
+#[derive(Drop)]
+pub struct StdSink<W: Write> {
+    writer: W,
+    faults: u64,
+}
+
+impl<W: Write> StdSink<W> {
+    pub fn new(writer: W) -> Self {
+        StdSink { writer, faults: 0 }
+    }
+}
+
+impl<W: Write> Sink for StdSink<W> {
+    ghost written = { λ s. W.contents s.writer };
+
+    ghost faults = { λ s. s.faults };
+
+    fn write(&mut self, from: &[u8]) -> Result<usize, Failed> {
+        match write_again(&mut self.writer, from) {
+            Ok(count) if count > 0 || from.is_empty() => Ok(count),
+            _ => {
+                self.faults = self.faults.saturating_add(1);
+                Err(Failed)
+            }
+        }
+    }
+}
+
+// One read, made again where a signal interrupts it.
+#[tactic(auto, using(crate::proofs::Joined::kept_reads))]
+fn read_again<R: Read>(reader: &mut R, into: &mut [u8]) -> io::Result<usize>
+    ensures bound { ReadsAtMost result into.new }
+    ensures bytes { ReadConsumes (R.remaining reader.old) (R.remaining reader.new) result into.new }
+{
+    for _ in 0..MOST_INTERRUPTS {
+        match reader.read(into) {
+            Err(error) if error.kind() == ErrorKind::Interrupted => {}
+            answer => return answer,
+        }
+    }
+    reader.read(into)
+}
+
+// One write, made again where a signal interrupts it.
+#[tactic(auto, using(crate::proofs::Joined::kept_writes))]
+fn write_again<W: Write>(writer: &mut W, from: &[u8]) -> io::Result<usize>
+    ensures bound { WritesAtMost result from.now }
+    ensures bytes { WriteAppends (W.contents writer.old) (W.contents writer.new) result from.now }
+{
+    for _ in 0..MOST_INTERRUPTS {
+        match writer.write(from) {
+            Err(error) if error.kind() == ErrorKind::Interrupted => {}
+            answer => return answer,
+        }
+    }
+    writer.write(from)
+}
