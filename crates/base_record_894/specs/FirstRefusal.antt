@@ -1,6 +1,6 @@
 -- The first refusal of a text: at each segment from the front the reasons are asked, in their order, over this segment
 -- and those before it.
-use Rattle.std.specs.Prelude.{◌≡◌, ℕ, ◌+◌, List, [], ◌∷◌, length, Option, Some, Result, Ok, Err}
+use Rattle.std.specs.Prelude.{◌≡◌, ℕ, ◌+◌, ◌≤◌, List, [], ◌∷◌, length, Option, Some, Result, Ok, Err}
 use Rattle.segments.specs.Views.{Seg}
 use Rattle.segments.specs.SegmentCut.{cut_of}
 use Rattle.segments.specs.Refusal.{Refusal, ended_at, refused_at}
@@ -59,3 +59,9 @@ record_of parts = record {
 
 abbrev pub seal_of : Parts → Seal
 seal_of parts = record { control = parts.closed.control; check = parts.closed.check }
+
+-- the place of a refusal is at most the length of the text
+abbrev pub IsWithin : {X : Type 0} → Result X SetFault → ℕ → Type 0
+IsWithin (Ok x) length = Unit {0}
+IsWithin (Err errors.Memory) length = Unit {0}
+IsWithin (Err (errors.Refused place reason)) length = place ≤ length

@@ -1,13 +1,14 @@
 //! The base record of a delivery.
 
-ghost use Rattle.std.specs.Prelude.{◌≡◌};
+ghost use Rattle.std.specs.Prelude.{◌≡◌, ◌≤◌, length};
+ghost use Rattle.base_record_894.specs.BaseRecord.{quantities as sum_of_quantities};
 ghost use Rattle.base_record_894.specs.FirstRefusal.{record_of, seal_of};
 ghost use Rattle.base_record_894.specs.PlainText.{IsSpelled};
 
 use crate::head::Head;
 use crate::notes::Notes;
 use crate::parts::Parts;
-use dsd_values::{Cents, Day, DeliveryNumber, Extras, Flag, Kept, Lines, Signature, Word};
+use dsd_values::{Cents, Day, DeliveryNumber, Extras, Flag, Kept, Line, Lines, MOST_LINES, Signature, Word};
 use segments::{Closed, Seal};
 use std::alloc::Global;
 use std::marker::Model;
@@ -122,6 +123,13 @@ impl Base {
         &self.references
     }
 
+    /// The sum of the quantities of the lines.
+    pub fn quantity(&self) -> u32
+        ensures { result ≡ sum_of_quantities self.now.lines }
+    {
+        quantities(self.lines.as_slice())
+    }
+
     pub fn lines(&self) -> &Lines
         ensures { result.now ≡ self.now.lines }
     {
@@ -147,4 +155,16 @@ impl Base {
     {
         &self.signature
     }
+}
+
+/// The sum of the quantities of these lines.
+pub fn quantities(lines: &[Line]) -> u32
+    requires { length lines.now ≤ MOST_LINES }
+    ensures { result ≡ sum_of_quantities lines.now }
+{
+    let mut sum = 0;
+    for line in lines {
+        sum += line.quantity.get();
+    }
+    sum
 }

@@ -8,7 +8,7 @@ ghost use Rattle.segments.specs.declared.seal.Seal.{Seal as SealValue};
 ghost use Rattle.base_record_894.specs.BaseRecord.{BaseRecord};
 ghost use Rattle.base_record_894.specs.PlainText.{IsPlain894};
 ghost use Rattle.base_record_894.specs.Said.{nothing};
-ghost use Rattle.base_record_894.specs.FirstRefusal.{refusal_of, segment_at, said_by, IsReadFrom};
+ghost use Rattle.base_record_894.specs.FirstRefusal.{refusal_of, segment_at, said_by, IsReadFrom, IsWithin};
 
 use crate::base::{seal_up, Base};
 use crate::parts::Parts;
@@ -27,6 +27,7 @@ pub fn read_894(alloc: Global, text: &[u8]) -> Result<(Base, Seal), SetFault>
 
     // It is refused at the first segment that has a reason against it, for its first one.
     ensures exact { Answers result (refusal_of text.now) (λ _. Unit {0}) }
+    ensures within { IsWithin result (length text.now) }
 {
     let (base, seal, _) = read_plain_894(alloc, text)?;
     Ok((base, seal))
@@ -42,6 +43,7 @@ pub fn read_plain_894(alloc: Global, text: &[u8]) -> Result<(Base, Seal, Cents),
 
     // It is refused at the first segment that has a reason against it, for its first one.
     ensures exact { Answers result (refusal_of text.now) (λ _. Unit {0}) }
+    ensures within { IsWithin result (length text.now) }
 {
     let parts = read_parts(alloc, text)?;
     Ok(seal_up(alloc, parts))
@@ -49,7 +51,8 @@ pub fn read_plain_894(alloc: Global, text: &[u8]) -> Result<(Base, Seal, Cents),
 
 /// Reads segment after segment.
 fn read_parts(alloc: Global, text: &[u8]) -> Result<Parts, SetFault>
-    ensures { Answers result (refusal_of text.now) (IsReadFrom (said_by nothing (cut_of text.now).segments)) }
+    ensures within { IsWithin result (length text.now) }
+    ensures exact { Answers result (refusal_of text.now) (IsReadFrom (said_by nothing (cut_of text.now).segments)) }
 {
     let mut machine = Reader::new(alloc)?;
     let mut segments = SegmentReader::new(text);

@@ -3,14 +3,14 @@
 ghost use Rattle.std.specs.Prelude.{◌≡◌, ℕ, ◌+◌, ◌<◌, ◌≤◌, List, [], ◌∷◌, length, IfOk, OnOk, None, Some};
 ghost use Rattle.segments.specs.Reasons.{Says};
 ghost use Rattle.segments.specs.Refusal.{Answers, ended_at};
-ghost use Rattle.base_record_894.specs.BaseRecord.{quantities as sum_of_quantities};
 ghost use Rattle.base_record_894.specs.Said.{nothing, answer_reason, quantity_reason, own_reason, reason_of, kept_by, after, is_whole};
 ghost use Rattle.base_record_894.specs.FirstRefusal.{IsReadFrom};
 ghost use Rattle.segments.specs.declared.kind.Kind.TheVariants as kinds;
 
+use crate::base::quantities;
 use crate::head::{read_head, Head};
 use crate::parts::Parts;
-use dsd_values::{Line, Memory, MOST_LINES, SET_BYTES};
+use dsd_values::{Memory, SET_BYTES};
 use segments::{at, is_start_of, not_yet, refused, Course, Form, Kind, Phase, Segment, SetFault, SetReason};
 use std::alloc::Global;
 use std::marker::Model;
@@ -121,16 +121,4 @@ impl Reader {
             }),
         }
     }
-}
-
-/// The sum of the quantities of these lines.
-fn quantities(lines: &[Line]) -> u32
-    requires { length lines.now ≤ MOST_LINES }
-    ensures { result ≡ sum_of_quantities lines.now }
-{
-    let mut sum = 0;
-    for line in lines {
-        sum += line.quantity.get();
-    }
-    sum
 }

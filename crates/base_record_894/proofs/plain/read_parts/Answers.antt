@@ -1,4 +1,4 @@
-use Rattle.std.proofs.Common.{◌≡◌, ℕ, ◌+◌, ◌≤◌, ◌<◌, length, Ok, Some, None, sym, ap, ap₂, ◌∙◌, arith, refl, subst, Option}
+use Rattle.std.proofs.Common.{◌≡◌, ℕ, ◌+◌, ◌≤◌, ◌<◌, length, Ok, Some, None, sym, ap, ap₂, ◌∙◌, arith, refl, subst, Option, length-append}
 use Rattle.std.specs.Option.{IfSome}
 use Rattle.segments.specs.Views.{Seg, Left}
 use Rattle.segments.specs.SegmentCut.{cut_left, cut_of, next_of, left_after, Cut}
@@ -8,13 +8,13 @@ use Rattle.base_record_894.specs.FirstRefusal.{said_by, IsReadFrom, refusal_of}
 use Rattle.base_record_894.proofs.Reading.{refusal_in, said_in, same_err, segment_ok, fault_answers, step_answers, end_answers, none_left, step_on, said_on, bytes_some, counted}
 use Rattle.base_record_894.proofs.plain.read_parts.Goals as goal
 
-pub returns-in_err-segment : goal.returns-in_err-segment
-returns-in_err-segment c =
+pub returns-in_err-segment-clause-exact : goal.returns-in_err-segment-clause-exact
+returns-in_err-segment-clause-exact c =
     fault_answers c.loop-machine.machine c.loop-machine.place c.loop-machine.segments _ _ _ _
       (same_err _ _ c.from_residual-in_err-segment.ensures) c.in_err-segment.ensures.answer c.loop-machine.invariant.rest
 
-pub returns-in_err-step : goal.returns-in_err-step
-returns-in_err-step c =
+pub returns-in_err-step-clause-exact : goal.returns-in_err-step-clause-exact
+returns-in_err-step-clause-exact c =
     let next = segment_ok _ _ _ c.in_ok-segment.ensures.answer ∙ ap (λ (o : Option Seg). Ok o) c.in-Some.is in
     step_answers c.loop-machine.machine c.loop-machine.place c.loop-machine.segments c.in-Some.segment _ _ _ _ _
       (same_err _ _ c.from_residual-in_err-step.ensures) next c.in_err-step.ensures.exact c.loop-machine.invariant.rest
@@ -41,9 +41,10 @@ loop-machine-preserved c =
       at = end ∙ ap (λ (n : ℕ). n + length seg.bytes) front.start ∙ sym front.place;
       count = omega (arith, ap (λ (u : Said). u.course.count) right.1, counted m seg, end, front.start, c.loop-machine.invariant.at, c.loop-machine.invariant.count, some);
       short = omega (arith, end, c.in_ok-step.ensures.short);
+      inside = omega (arith, end, front.start, c.loop-machine.invariant.at, c.loop-machine.invariant.inside, ap length front.there, length-append seg.bytes c.next_segment.new.segments.rest);
     }
 
-pub returns : goal.returns
-returns c =
+pub returns-clause-exact : goal.returns-clause-exact
+returns-clause-exact c =
     let next = segment_ok _ _ _ c.in_ok-segment.ensures.answer ∙ ap (λ (o : Option Seg). Ok o) (none_left _ c.in_default.not-Some) in
     end_answers c.loop-machine.machine c.loop-machine.place c.loop-machine.segments _ _ _ next c.loop-machine.invariant.rest c.loop-machine.invariant.said c.finish.ensures

@@ -1,4 +1,4 @@
-use Rattle.std.proofs.Common.{◌≡◌, ◌≤◌, length}
+use Rattle.std.proofs.Common.{◌≡◌, ◌+◌, ◌≤◌, length}
 use Rattle.dsd_values.specs.declared.limits.TheConstants.{SET_BYTES}
 use Rattle.segments.specs.SegmentCut.{cut_of, cut_left}
 use Rattle.base_record_894.specs.Said.{nothing}
@@ -14,6 +14,7 @@ invariant-loop-machine l = record {
   at : l.place ≡ l.segments.place;
   count : l.machine.course.count ≤ l.place;
   short : l.place ≤ SET_BYTES;
+  inside : l.place + length l.segments.rest ≡ length l.fn.text;
 }
 
 abbrev pub decreases-loop-machine : goal.decreases-loop-machine

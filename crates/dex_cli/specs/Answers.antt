@@ -1,0 +1,71 @@
+-- Which answers may come of which words and input, and their statuses.
+use Rattle.std.specs.Prelude.{◌≡◌, ◌⊎◌, ◌≢◌, ℕ, ◌+◌, ◌<◌, ◌≤◌, List, ◌++◌, length, Option, Some}
+use Rattle.std.specs.Io.KnownBytes.{Consumes, IsAtEnd}
+use Rattle.dsd_station.specs.Causes.{Rose}
+use Rattle.segments.specs.declared.seal.Seal.{Seal}
+use Rattle.segments.specs.declared.set_fault.SetReason.{SetReason}
+use Rattle.segments.specs.declared.set_fault.SetReason.TheVariants as reasons
+use Rattle.base_record_894.specs.BaseRecord.{BaseRecord}
+use Rattle.base_record_894.specs.PlainText.{IsPlain894}
+use Rattle.base_record_894.specs.FirstRefusal.{refusal_of}
+use Rattle.dex_cli.specs.Words.{words_of}
+use Rattle.dex_cli.specs.declared.answer.Answer.{Answer}
+use Rattle.dex_cli.specs.declared.answer.Answer.TheVariants as answers
+use Rattle.dex_cli.specs.declared.job.TheConstants.{INPUT_BYTES}
+use Rattle.dex_cli.specs.declared.status.TheConstants.{DONE, WORDS_REFUSED, INPUT_REFUSED, SOURCE_FAILED}
+use Rattle.dex_cli.specs.declared.words.Job.{Job}
+use Rattle.dex_cli.specs.declared.words.Job.TheVariants as jobs
+use Rattle.dex_cli.specs.declared.words.CheckKind.TheVariants as checks
+
+-- the source gave this input: all that it had, or its front up to the first byte past the limit
+pub record IsInput (left after : Option (List ℕ)) (input : List ℕ) : Type 0 where
+  pub taken : Consumes left after input
+  pub whole : length input ≤ INPUT_BYTES → IsAtEnd after
+
+-- longer than any input may be
+pub record IsTooLong (input : List ℕ) (place : ℕ) (reason : SetReason) : Type 0 where
+  pub long : INPUT_BYTES < length input
+  pub place_is : place ≡ INPUT_BYTES
+  pub reason_is : reason ≡ reasons.Limit
+
+-- no record is spelled by the text, and this is its first refusal
+pub record IsRefused (input : List ℕ) (place : ℕ) (reason : SetReason) : Type 0 where
+  pub short : length input ≤ INPUT_BYTES
+  pub first : refusal_of input ≡ Some (record { place = place; reason = reason })
+  pub none : (base : BaseRecord) (seal : Seal) (amount : ℕ) → IsPlain894 base seal amount input → ⊥
+  pub within : place ≤ length input
+
+-- What `check set` answers to an input.
+abbrev pub ChecksSet : List ℕ → Answer → Type 0
+ChecksSet input answers.Words = ⊥
+ChecksSet input answers.SourceFault = ⊥
+ChecksSet input (answers.Refused place reason) = IsTooLong input place reason ⊎ IsRefused input place reason
+ChecksSet input (answers.Set summary) = (length input ≤ INPUT_BYTES) × IsPlain894 summary.base summary.seal summary.amount input
+
+-- What a job answers to an input.
+abbrev pub Answered : Job → List ℕ → Answer → Type 0
+Answered (jobs.Check checks.Set) input answer = ChecksSet input answer
+
+-- what was left in the source before and after, and its count of faults before and after
+pub record Read : Type 0 where
+  pub left : Option (List ℕ)
+  pub after : Option (List ℕ)
+  pub faults : ℕ
+  pub faults_after : ℕ
+
+-- the words are a job's, and the answer is that job's to the input that was read
+abbrev pub IsJobs : List (List ℕ) → Read → Answer → Type 0
+IsJobs words read answer = (job : Job) × (words ≡ words_of job) × ((input : List ℕ) × IsInput read.left read.after input × Answered job input answer)
+
+-- When each answer may come.
+abbrev pub MayAnswer : List (List ℕ) → Read → Answer → Type 0
+MayAnswer words read answers.Words = ((job : Job) → words ≢ words_of job) × (read.after ≡ read.left)
+MayAnswer words read answers.SourceFault = ((job : Job) × (words ≡ words_of job)) × Rose read.faults read.faults_after
+MayAnswer words read (answers.Refused place reason) = IsJobs words read (answers.Refused place reason)
+MayAnswer words read (answers.Set summary) = IsJobs words read (answers.Set summary)
+
+abbrev pub status_of : Answer → ℕ
+status_of (answers.Set summary) = DONE
+status_of answers.Words = WORDS_REFUSED
+status_of (answers.Refused place reason) = INPUT_REFUSED
+status_of answers.SourceFault = SOURCE_FAILED

@@ -1,0 +1,87 @@
+//! The top call.
+
+ghost use Rattle.std.specs.Prelude.{◌≡◌, ◌≢◌, ◌≤◌, ℕ, IfOk, map, string_bytes, length};
+ghost use Rattle.std.specs.Io.KnownBytes.{Appends, Keeps};
+ghost use Rattle.dsd_station.specs.Causes.{Rose, WritesFront};
+ghost use Rattle.dex_cli.specs.Texts.{printed};
+ghost use Rattle.dex_cli.specs.Answers.{Read, MayAnswer, Answered, status_of};
+ghost use Rattle.dex_cli.specs.declared.answer.Answer.{Answer as AnswerValue};
+
+use crate::answer::Answer;
+use crate::check_set::check_set;
+use crate::report::text_of;
+use crate::status::{NO_MEMORY, SINK_FAILED};
+use crate::words::{CheckKind, Job, WordsFault, read_words};
+use dsd_station::{ReadFault, Sink, Source, read_up_to, write_all};
+use std::alloc::{AllocError, Global};
+
+/// The most bytes of an input.
+pub const INPUT_BYTES: usize = 4_194_304;
+
+/// Does what the words, those after the program's name, say: reads the source, writes the text to the sink, and answers
+/// the status.
+pub fn dex<S: Source, K: Sink>(alloc: Global, words: &[String], source: &mut S, sink: &mut K) -> u8
+    // Every status but two is that of an answer which may come, and all of its text is written.
+    ensures told { result ≢ SINK_FAILED → result ≢ NO_MEMORY → (answer : AnswerValue)
+        × MayAnswer (map string_bytes words.now) (record { left = S.left source.old; after = S.left source.new; faults = S.faults source.old; faults_after = S.faults source.new }) answer
+        × (result ≡ status_of answer) × Appends (K.written sink.old) (K.written sink.new) (printed answer) }
+
+    // The sink failed, and a first part of such a text is written.
+    ensures sink { result ≡ SINK_FAILED → Rose (K.faults sink.old) (K.faults sink.new) × ((answer : AnswerValue)
+        × MayAnswer (map string_bytes words.now) (record { left = S.left source.old; after = S.left source.new; faults = S.faults source.old; faults_after = S.faults source.new }) answer
+        × WritesFront (K.written sink.old) (K.written sink.new) (printed answer)) }
+
+    // Memory was wanting before anything was written.
+    ensures memory { result ≡ NO_MEMORY → Keeps (K.written sink.old) (K.written sink.new) }
+
+    ensures source_count { S.faults source.old ≤ S.faults source.new }
+    ensures sink_count { K.faults sink.old ≤ K.faults sink.new }
+{
+    match answer(alloc, words, source) {
+        Ok(answer) => print(alloc, &answer, sink),
+        Err(_) => NO_MEMORY,
+    }
+}
+
+/// Does the job, up to what is printed of it.
+fn answer<S: Source>(alloc: Global, words: &[String], source: &mut S) -> Result<Answer, AllocError>
+    ensures may { IfOk result (MayAnswer (map string_bytes words.now) (record { left = S.left source.old; after = S.left source.new; faults = S.faults source.old; faults_after = S.faults source.new })) }
+    ensures later { S.faults source.old ≤ S.faults source.new }
+{
+    let job = match read_words(alloc, words) {
+        Ok(job) => job,
+        Err(WordsFault::Refused) => return Ok(Answer::Words),
+        Err(WordsFault::Memory) => return Err(AllocError),
+    };
+    match read_up_to(alloc, source, INPUT_BYTES + 1) {
+        Ok(input) => judge(alloc, &job, &input),
+        Err(ReadFault::Failed) => Ok(Answer::SourceFault),
+        Err(ReadFault::Memory) => Err(AllocError),
+    }
+}
+
+/// The answer of a job to its input.
+fn judge(alloc: Global, job: &Job, input: &[u8]) -> Result<Answer, AllocError>
+    ensures { IfOk result (Answered job.now input.now) }
+{
+    match job {
+        Job::Check(CheckKind::Set) => check_set(alloc, input),
+    }
+}
+
+/// Writes the text of an answer, and answers the status.
+fn print<K: Sink>(alloc: Global, answer: &Answer, sink: &mut K) -> u8
+    ensures told { result ≢ SINK_FAILED → result ≢ NO_MEMORY → (result ≡ status_of answer.now) × Appends (K.written sink.old) (K.written sink.new) (printed answer.now) }
+    ensures sink { result ≡ SINK_FAILED → Rose (K.faults sink.old) (K.faults sink.new) × WritesFront (K.written sink.old) (K.written sink.new) (printed answer.now) }
+    ensures memory { result ≡ NO_MEMORY → Keeps (K.written sink.old) (K.written sink.new) }
+    ensures count { K.faults sink.old ≤ K.faults sink.new }
+{
+    let text = match text_of(alloc, answer) {
+        Ok(text) => text,
+        Err(_) => return NO_MEMORY,
+    };
+    match write_all(sink, &text) {
+        Ok(()) => answer.status(),
+        Err(_) => SINK_FAILED,
+    }
+}

@@ -1,0 +1,21 @@
+//! The jobs of the program `dex`: from words and an input to a printed text and a status.
+#![tactic(auto)]
+
+mod answer;
+mod check_set;
+mod job;
+pub mod laws;
+mod reasons;
+mod report;
+mod status;
+mod summary;
+mod words;
+
+pub use answer::Answer;
+pub use job::{INPUT_BYTES, dex};
+pub use status::NO_MEMORY;
+pub use summary::SetSummary;
+pub use words::{CheckKind, Job, WordsFault, read_words};
+
+#[cfg(test)]
+mod tests;

@@ -1,0 +1,87 @@
+//! The printed texts of reasons.
+
+ghost use Rattle.std.specs.Prelude.{◌≡◌, ◌++◌, OnOk};
+ghost use Rattle.std.specs.Fmt.{decimal};
+ghost use Rattle.dex_cli.specs.Texts.{both, fault_text, segment_fault_text, reason_text};
+
+use crate::report::{put, put_bytes, put_number, put_signed};
+use dsd_values::{ValueFault, write_check};
+use segments::{SegmentFault, SetReason};
+use std::alloc::{AllocError, Global};
+
+fn segment_fault(fault: SegmentFault) -> &'static str
+    ensures { result.now ≡ segment_fault_text fault }
+{
+    match fault {
+        SegmentFault::NoEnd(_) => "SEGMENT NOEND",
+        SegmentFault::BadByte(_, _) => "SEGMENT BADBYTE",
+        SegmentFault::BadId(_) => "SEGMENT BADID",
+        SegmentFault::TooLong(_) => "SEGMENT TOOLONG",
+        SegmentFault::TooManyElements(_) => "SEGMENT ELEMENTS",
+    }
+}
+
+/// A name and a number.
+fn put_named(
+    alloc: Global,
+    out: &mut Vec<u8>,
+    name: &str,
+    number: u64,
+) -> Result<(), AllocError>
+    ensures { OnOk result (out.new.items ≡ out.old.items ++ both name.now (decimal number)) }
+{
+    put(out, name)?;
+    put(out, " ")?;
+    put_number(alloc, out, number)
+}
+
+fn put_fault(alloc: Global, out: &mut Vec<u8>, fault: ValueFault) -> Result<(), AllocError>
+    ensures { OnOk result (out.new.items ≡ out.old.items ++ fault_text fault) }
+{
+    match fault {
+        ValueFault::Empty => put(out, "EMPTY"),
+        ValueFault::TooLong(length) => put_named(alloc, out, "TOOLONG", length as u64),
+        ValueFault::NotDigit(place) => put_named(alloc, out, "NOTDIGIT", place as u64),
+        ValueFault::TooManyDecimals(count) => put_named(alloc, out, "DECIMALS", count as u64),
+        ValueFault::OutOfRange => put(out, "RANGE"),
+        ValueFault::NoSuchDay => put(out, "NOSUCHDAY"),
+    }
+}
+
+/// Prints a reason.
+pub fn put_reason(alloc: Global, out: &mut Vec<u8>, reason: &SetReason) -> Result<(), AllocError>
+    ensures { OnOk result (out.new.items ≡ out.old.items ++ reason_text reason.now) }
+{
+    match reason {
+        SetReason::Segment(fault) => put(out, segment_fault(*fault)),
+        SetReason::Order => put(out, "ORDER"),
+        SetReason::NotYet(id) => {
+            put(out, "NOTYET ")?;
+            put_bytes(out, id.as_slice())
+        }
+        SetReason::Limit => put(out, "LIMIT"),
+        SetReason::Value { element, fault } => {
+            put_named(alloc, out, "VALUE", *element as u64)?;
+            put(out, " ")?;
+            put_fault(alloc, out, *fault)
+        }
+        SetReason::Twice(dsd) => put_named(alloc, out, "TWICE", u64::from(dsd.get())),
+        SetReason::Totals { said, computed } => {
+            put_named(alloc, out, "TOTALS", *said)?;
+            put(out, " ")?;
+            put_signed(alloc, out, *computed)
+        }
+        SetReason::Check { said, computed } => {
+            put(out, "CHECK ")?;
+            put_bytes(out, write_check(*said).as_slice())?;
+            put(out, " ")?;
+            put_bytes(out, write_check(*computed).as_slice())
+        }
+        SetReason::Count { said, found } => {
+            put_named(alloc, out, "COUNT", *said)?;
+            put(out, " ")?;
+            put_number(alloc, out, *found)
+        }
+        SetReason::Control => put(out, "CONTROL"),
+    }
+}

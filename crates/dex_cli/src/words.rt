@@ -1,0 +1,54 @@
+//! The words of the command line.
+
+ghost use Rattle.std.specs.Prelude.{◌≡◌, ◌≢◌, IfOk, IsErrOf, map, string_bytes};
+ghost use Rattle.dex_cli.specs.Words.{words_of};
+ghost use Rattle.dex_cli.specs.declared.words.Job.{Job as JobValue};
+
+use std::alloc::Global;
+use thiserror::Error;
+
+/// What is checked.
+#[derive(Clone, Copy, Debug, PartialEq, Eq)]
+pub enum CheckKind {
+    /// One set.
+    Set,
+}
+
+/// What the program is to do.
+#[derive(Debug, PartialEq, Eq, Drop)]
+pub enum Job {
+    /// `check set`: reads the source and prints what stands in it.
+    Check(CheckKind),
+}
+
+/// Why words are no job.
+#[derive(Clone, Copy, Debug, PartialEq, Eq, Drop, Error)]
+pub enum WordsFault {
+    /// They are the words of no job.
+    #[error("these are the words of no job")]
+    Refused,
+    /// Memory is wanting.
+    #[error("memory is wanting")]
+    Memory,
+}
+
+/// The job that the words, those after the program's name, spell.
+pub fn read_words(_alloc: Global, words: &[String]) -> Result<Job, WordsFault>
+    ensures found { IfOk result (λ job. map string_bytes words.now ≡ words_of job) }
+    ensures refused { IsErrOf result WordsFault.Refused → (job : JobValue) → map string_bytes words.now ≢ words_of job }
+{
+    if is_check_set(words) {
+        Ok(Job::Check(CheckKind::Set))
+    } else {
+        Err(WordsFault::Refused)
+    }
+}
+
+fn is_check_set(words: &[String]) -> bool
+    ensures { IsTrue result ↔ (map string_bytes words.now ≡ words_of (Job.Check CheckKind.Set)) }
+{
+    match words {
+        [first, second] => first.as_str() == "check" && second.as_str() == "set",
+        _ => false,
+    }
+}
