@@ -1,8 +1,10 @@
 //! The words of the command line.
 
-ghost use Rattle.std.specs.Prelude.{◌≡◌, ◌≢◌, IfOk, IsErrOf, map, string_bytes};
+ghost use Rattle.std.specs.Prelude.{◌≡◌, ◌≢◌, ◌↔◌, IfOk, IsTrue, IsErrOf, map, string_bytes};
 ghost use Rattle.dex_cli.specs.Words.{words_of};
 ghost use Rattle.dex_cli.specs.declared.words.Job.{Job as JobValue};
+ghost use Rattle.dex_cli.specs.declared.words.Job.TheVariants as jobs;
+ghost use Rattle.dex_cli.specs.declared.words.CheckKind.TheVariants as checks;
 
 use std::alloc::Global;
 use thiserror::Error;
@@ -45,7 +47,7 @@ pub fn read_words(_alloc: Global, words: &[String]) -> Result<Job, WordsFault>
 }
 
 fn is_check_set(words: &[String]) -> bool
-    ensures { IsTrue result ↔ (map string_bytes words.now ≡ words_of (Job.Check CheckKind.Set)) }
+    ensures { IsTrue result ↔ (map string_bytes words.now ≡ words_of (jobs.Check checks.Set)) }
 {
     match words {
         [first, second] => first.as_str() == "check" && second.as_str() == "set",
