@@ -9,7 +9,7 @@ use Rattle.segments.specs.SoFar.{SoFar, kept, phase_in}
 use Rattle.segments.specs.Elements.{◌or_else◌}
 use Rattle.segments.specs.Reasons.{course_reason, admission}
 use Rattle.segments.specs.Refusal.{Refusal, refused_at, ended_at, Answers}
-use Rattle.segments.specs.Grammar.{Tail, IsSound, AreApart}
+use Rattle.segments.specs.Grammar.{Shared, IsSound, AreApart}
 use Rattle.segments.specs.Closing.{IsClosed}
 use Rattle.segments.specs.SegmentSpelling.{SpellsSegments}
 use Rattle.segments.specs.SegmentCut.{Cut, cut_of}
@@ -29,10 +29,11 @@ use Rattle.segments.proofs.Rest.{IsAt}
 use Rattle.segments.proofs.Back.{moves, is_plain}
 use Rattle.segments.proofs.Keeps.{Sound, keeps, at_next, refused_none, none_refused, ended_none, none_ended, done_is, MayStand, may_stand, admitted}
 use Rattle.base_record_894.specs.BaseRecord.{BaseRecord, quantities}
-use Rattle.base_record_894.specs.Grammar.{tail_of, FromStart}
+use Rattle.base_record_894.specs.Grammar.{shared_of, FromStart}
 use Rattle.base_record_894.specs.PlainText.{IsPlain894}
 use Rattle.base_record_894.specs.Said.{Said, nothing, own_reason, reason_of, answer_reason, quantity_reason, kept_by, after, is_whole, has_head}
-use Rattle.base_record_894.specs.FirstRefusal.{refusal_from, said_by, IsReadFrom, record_of, seal_of}
+use Rattle.base_record_894.specs.FirstRefusal.{refusal_from}
+use Rattle.base_record_894.specs.ReadParts.{said_by, IsReadFrom, record_of, seal_of}
 use Rattle.base_record_894.specs.declared.head.Head.{Head}
 use Rattle.base_record_894.specs.declared.parts.Parts.{Parts}
 use Rattle.base_record_894.proofs.Moves.{Rest894, head_of, back, forth}
@@ -163,7 +164,7 @@ abbrev amount_in : Parts → ℕ
 amount_in parts = parts.closed.totals.amount
 
 -- the totals of what was read are those that were stated, where the quantity is the sum
-totals_end : (m : SoFar) (parts : Parts) → IsClosed m parts.closed → m.totals.quantity ≡ quantities m.lines → (tail_of (record_of parts) (seal_of parts) (amount_in parts)).totals ≡ m.totals
+totals_end : (m : SoFar) (parts : Parts) → IsClosed m parts.closed → m.totals.quantity ≡ quantities m.lines → (shared_of (record_of parts) (seal_of parts) (amount_in parts)).totals ≡ m.totals
 totals_end m parts c sums =
     let quantity : quantities parts.closed.lines ≡ parts.closed.totals.quantity =
       ap quantities c.lines ∙ sym sums ∙ ap (λ (u : StatedTotals). u.quantity) (sym c.totals) in
@@ -222,7 +223,7 @@ pub record IsReadSo (m : Said) (b : BaseRecord) (s : Seal) (amount : ℕ) (place
   pub head : Some (head_of b) ≡ (said_by m segs).head
   pub lines : b.lines ≡ (said_by m segs).course.lines
   pub control : s.control ≡ (said_by m segs).course.control
-  pub totals : (tail_of b s amount).totals ≡ (said_by m segs).course.totals
+  pub totals : (shared_of b s amount).totals ≡ (said_by m segs).course.totals
   pub signature : b.signature ≡ (said_by m segs).course.signature
   pub check : s.check ≡ (said_by m segs).course.integrity
 
@@ -231,7 +232,7 @@ record IsWhole (from : Phase) (m : Said) (b : BaseRecord) (s : Seal) (amount : �
   head : Some (head_of b) ≡ m.head
   lines : b.lines ≡ m.course.lines
   control : s.control ≡ m.course.control
-  totals : (tail_of b s amount).totals ≡ m.course.totals
+  totals : (shared_of b s amount).totals ≡ m.course.totals
   signature : b.signature ≡ m.course.signature
   check : s.check ≡ m.course.integrity
 

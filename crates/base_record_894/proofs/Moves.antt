@@ -9,7 +9,7 @@ use Rattle.segments.specs.Tables.{totals_fault, totals_in, control_in}
 use Rattle.segments.specs.Kinds.{kind_of, next_phase}
 use Rattle.segments.specs.SoFar.{SoFar, kept, phase_in}
 use Rattle.segments.specs.Reasons.{course_reason}
-use Rattle.segments.specs.Grammar.{Shape, Tail, Body, IsStart, IsSound}
+use Rattle.segments.specs.Grammar.{Shape, Shared, Body, IsStart, IsSound}
 use Rattle.segments.specs.declared.seal.Seal.{Seal}
 use Rattle.segments.specs.declared.kind.Kind.{Kind}
 use Rattle.segments.specs.declared.kind.Kind.TheVariants as kinds
@@ -24,7 +24,7 @@ use Rattle.segments.proofs.Back.{moves, is_plain, is_course, back as course_back
 use Rattle.segments.proofs.Forth as course_forth
 use Rattle.base_record_894.specs.BaseRecord.{BaseRecord, quantities}
 use Rattle.base_record_894.specs.HeadTable.{head_fault, head_in, no_day}
-use Rattle.base_record_894.specs.Grammar.{IsHead, FromStart, FromHead, tail_of}
+use Rattle.base_record_894.specs.Grammar.{IsHead, FromStart, FromHead, shared_of}
 use Rattle.base_record_894.specs.Said.{Said, own_reason, kept_by, quantity_reason}
 use Rattle.base_record_894.specs.declared.head.Head.{Head}
 
@@ -105,7 +105,7 @@ head_said b seg i = same_head (head_of b) (head_in seg)
 abbrev pub Rest894 : Phase → Said → BaseRecord → Seal → ℕ → Shape
 Rest894 phases.Start m b s amount before segs = (lines : List Line) × (b.lines ≡ m.course.lines ++ lines) × FromStart lines b s amount before segs
 Rest894 phases.Head m b s amount before segs = (lines : List Line) × (b.lines ≡ m.course.lines ++ lines) × (s.control ≡ m.course.control) × FromHead lines b s amount before segs
-Rest894 phase m b s amount before segs = (Some (head_of b) ≡ m.head) × RestAt phase forms.Base m.course (tail_of b s amount) before segs
+Rest894 phase m b s amount before segs = (Some (head_of b) ≡ m.head) × RestAt phase forms.Base m.course (shared_of b s amount) before segs
 
 module _ (m : Said) (b : BaseRecord) (s : Seal) (amount : ℕ) (before : List Seg) (seg : Seg) (segs : List Seg) (count check : ℕ) where
   abbrev Behind : Phase → Kind → Type 0
@@ -127,9 +127,9 @@ module _ (m : Said) (b : BaseRecord) (s : Seal) (amount : ℕ) (before : List Se
   -- a segment of the course, behind the head
   course_on : (from : Phase) (kind : Kind) → is_course from ≡ true → is_plain kind ≡ true → moves (next_phase from kind forms.Base) ≡ true
     → kind_of forms.Base seg ≡ kind → course_reason m.course seg kind ≡ None → IsAt before m.course
-    → RestAt (phase_in (next_phase from kind forms.Base)) forms.Base (kept m.course seg kind (phase_in (next_phase from kind forms.Base)) count check) (tail_of b s amount) (before ++ seg ∷ []) segs
-    → RestAt from forms.Base m.course (tail_of b s amount) before (seg ∷ segs)
-  course_on from kind p q r k e at rest = course_back forms.Base m.course (tail_of b s amount) before seg segs count check from kind p q r k e at rest
+    → RestAt (phase_in (next_phase from kind forms.Base)) forms.Base (kept m.course seg kind (phase_in (next_phase from kind forms.Base)) count check) (shared_of b s amount) (before ++ seg ∷ []) segs
+    → RestAt from forms.Base m.course (shared_of b s amount) before (seg ∷ segs)
+  course_on from kind p q r k e at rest = course_back forms.Base m.course (shared_of b s amount) before seg segs count check from kind p q r k e at rest
 
   -- A segment that may stand there, is plain and has no reason against it, before the rest.
   pub back : (from : Phase) (kind : Kind) → is_plain kind ≡ true → moves (next_phase from kind forms.Base) ≡ true → From from kind
@@ -167,7 +167,7 @@ module _ (m : Said) (b : BaseRecord) (s : Seal) (amount : ℕ) (before : List Se
     unfolding kept kept_by
     head_on (lines, l, c, (k, i, rest)) = (k, value_none _ (right_head b seg i), (ap (λ (u : Head). Some u) (head_said b seg i), (lines, l, c, rest)))
 
-    agreed : b.lines ≡ m.course.lines → (tail_of b s amount).totals ≡ totals_in seg → quantity_reason (totals_in seg).quantity (quantities m.course.lines) ≡ None
+    agreed : b.lines ≡ m.course.lines → (shared_of b s amount).totals ≡ totals_in seg → quantity_reason (totals_in seg).quantity (quantities m.course.lines) ≡ None
     agreed l same =
         let sums : (totals_in seg).quantity ≡ quantities m.course.lines = ap (λ (u : StatedTotals). u.quantity) (sym same) ∙ ap quantities l in
         when_not _ _ (number_same _ _ sums)
@@ -175,7 +175,7 @@ module _ (m : Said) (b : BaseRecord) (s : Seal) (amount : ℕ) (before : List Se
     -- the totals of a record are those of its lines
     totals_on : (from : Phase) → Some (head_of b) ≡ m.head → next_phase from kinds.Totals forms.Base ≡ Some phases.Signature
       → (kind_of forms.Base seg ≡ kinds.Totals) × (course_reason m.course seg kinds.Totals ≡ None)
-        × RestAt phases.Signature forms.Base (kept m.course seg kinds.Totals phases.Signature count check) (tail_of b s amount) (before ++ seg ∷ []) segs
+        × RestAt phases.Signature forms.Base (kept m.course seg kinds.Totals phases.Signature count check) (shared_of b s amount) (before ++ seg ∷ []) segs
       → (kind_of forms.Base seg ≡ kinds.Totals) × (own_reason m seg kinds.Totals ≡ None)
         × Rest894 phases.Signature (kept_by m seg kinds.Totals phases.Signature count check) b s amount (before ++ seg ∷ []) segs
     unfolding kept kept_by
@@ -187,36 +187,36 @@ module _ (m : Said) (b : BaseRecord) (s : Seal) (amount : ℕ) (before : List Se
     forth phases.Start r = record { kind = kinds.Start; plain = refl; moves_on = refl; goes = start_on r }
     forth phases.Head r = record { kind = kinds.Head; plain = refl; moves_on = refl; goes = head_on r }
     forth phases.References (h, (line ∷ lines, l, c, r)) =
-        let g = course_forth.loop_start_on forms.Base m.course (tail_of b s amount) before seg segs count check sound at line lines l c r in
+        let g = course_forth.loop_start_on forms.Base m.course (shared_of b s amount) before seg segs count check sound at line lines l c r in
         record { kind = kinds.LoopStart; plain = refl; moves_on = refl; goes = (g.0, g.1, (h, g.2)) }
     forth phases.References (h, ([], l, c, r)) =
-        let g = course_forth.totals_on forms.Base m.course (tail_of b s amount) before seg segs count check sound at (l ∙ append-nil m.course.lines) c r in
+        let g = course_forth.totals_on forms.Base m.course (shared_of b s amount) before seg segs count check sound at (l ∙ append-nil m.course.lines) c r in
         record { kind = kinds.Totals; plain = refl; moves_on = refl; goes = totals_on phases.References h refl g }
     forth phases.Body (h, (line ∷ lines, l, c, r)) =
-        let g = course_forth.loop_start_on forms.Base m.course (tail_of b s amount) before seg segs count check sound at line lines l c r in
+        let g = course_forth.loop_start_on forms.Base m.course (shared_of b s amount) before seg segs count check sound at line lines l c r in
         record { kind = kinds.LoopStart; plain = refl; moves_on = refl; goes = (g.0, g.1, (h, g.2)) }
     forth phases.Body (h, ([], l, c, r)) =
-        let g = course_forth.totals_on forms.Base m.course (tail_of b s amount) before seg segs count check sound at (l ∙ append-nil m.course.lines) c r in
+        let g = course_forth.totals_on forms.Base m.course (shared_of b s amount) before seg segs count check sound at (l ∙ append-nil m.course.lines) c r in
         record { kind = kinds.Totals; plain = refl; moves_on = refl; goes = totals_on phases.Body h refl g }
     forth phases.FirstItem (h, r) =
-        let g = course_forth.first_item_on forms.Base m.course (tail_of b s amount) before seg segs count check sound at r in
+        let g = course_forth.first_item_on forms.Base m.course (shared_of b s amount) before seg segs count check sound at r in
         record { kind = kinds.Item; plain = refl; moves_on = refl; goes = (g.0, g.1, (h, g.2)) }
     forth phases.Items (h, (line ∷ lines, l, c, r)) =
-        let g = course_forth.item_on forms.Base m.course (tail_of b s amount) before seg segs count check sound at line lines l c r in
+        let g = course_forth.item_on forms.Base m.course (shared_of b s amount) before seg segs count check sound at line lines l c r in
         record { kind = kinds.Item; plain = refl; moves_on = refl; goes = (g.0, g.1, (h, g.2)) }
     forth phases.Items (h, ([], l, c, r)) =
-        let g = course_forth.loop_end_on forms.Base m.course (tail_of b s amount) before seg segs count check sound at l c r in
+        let g = course_forth.loop_end_on forms.Base m.course (shared_of b s amount) before seg segs count check sound at l c r in
         record { kind = kinds.LoopEnd; plain = refl; moves_on = refl; goes = (g.0, g.1, (h, g.2)) }
     forth phases.Extras (h, ((l, c), r)) =
-        let g = course_forth.totals_on forms.Base m.course (tail_of b s amount) before seg segs count check sound at l c r in
+        let g = course_forth.totals_on forms.Base m.course (shared_of b s amount) before seg segs count check sound at l c r in
         record { kind = kinds.Totals; plain = refl; moves_on = refl; goes = totals_on phases.Extras h refl g }
     forth phases.Signature (h, r) =
-        let g = course_forth.signature_on forms.Base m.course (tail_of b s amount) before seg segs count check sound at r in
+        let g = course_forth.signature_on forms.Base m.course (shared_of b s amount) before seg segs count check sound at r in
         record { kind = kinds.Signature; plain = refl; moves_on = refl; goes = (g.0, g.1, (h, g.2)) }
     forth phases.Integrity (h, r) =
-        let g = course_forth.integrity_on forms.Base m.course (tail_of b s amount) before seg segs count check sound at r in
+        let g = course_forth.integrity_on forms.Base m.course (shared_of b s amount) before seg segs count check sound at r in
         record { kind = kinds.Integrity; plain = refl; moves_on = refl; goes = (g.0, g.1, (h, g.2)) }
     forth phases.Trailer (h, r) =
-        let g = course_forth.trailer_on forms.Base m.course (tail_of b s amount) before seg segs count check sound at r in
+        let g = course_forth.trailer_on forms.Base m.course (shared_of b s amount) before seg segs count check sound at r in
         record { kind = kinds.Trailer; plain = refl; moves_on = refl; goes = (g.0, g.1, (h, g.2)) }
     forth phases.Done (h, (read, totals, g, i, e)) = cc

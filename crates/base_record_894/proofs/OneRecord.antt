@@ -13,10 +13,11 @@ use Rattle.segments.specs.declared.set_fault.SetFault.TheVariants as errors
 use Rattle.segments.specs.declared.seal.Seal.{Seal}
 use Rattle.segments.specs.declared.stated.StatedTotals.{StatedTotals}
 use Rattle.base_record_894.specs.BaseRecord.{BaseRecord}
-use Rattle.base_record_894.specs.Grammar.{tail_of}
+use Rattle.base_record_894.specs.Grammar.{shared_of}
 use Rattle.base_record_894.specs.PlainText.{IsPlain894, IsSpelled}
 use Rattle.base_record_894.specs.Said.{nothing}
-use Rattle.base_record_894.specs.FirstRefusal.{refusal_of, refusal_from, said_by, IsReadFrom, record_of, seal_of}
+use Rattle.base_record_894.specs.FirstRefusal.{refusal_of, refusal_from}
+use Rattle.base_record_894.specs.ReadParts.{said_by, IsReadFrom, record_of, seal_of}
 use Rattle.base_record_894.specs.declared.head.Head.{Head}
 use Rattle.base_record_894.specs.declared.parts.Parts.{Parts}
 use Rattle.base_record_894.proofs.Moves.{head_of}
@@ -55,7 +56,7 @@ same_read text parts b s amount is r =
     let o = (only text b s amount is).0 in
     let some : Some parts.head ≡ Some (head_of b) = sym (o.head ∙ r.head) in
     let head : parts.head ≡ head_of b = cc (some) in
-    let totals : parts.closed.totals ≡ (tail_of b s amount).totals = r.closed.totals ∙ sym o.totals in
+    let totals : parts.closed.totals ≡ (shared_of b s amount).totals = r.closed.totals ∙ sym o.totals in
     record {
       base = same_record (record_of parts) b
         (ap (λ (h : Head). h.flag) head)
@@ -94,7 +95,7 @@ one text a b s t m n is also =
     let p = (only text b t n also).0 in
     let some : Some (head_of a) ≡ Some (head_of b) = o.head ∙ sym p.head in
     let head : head_of a ≡ head_of b = cc (some) in
-    let totals : (tail_of a s m).totals ≡ (tail_of b t n).totals = o.totals ∙ sym p.totals in
+    let totals : (shared_of a s m).totals ≡ (shared_of b t n).totals = o.totals ∙ sym p.totals in
     (same_record a b
         (ap (λ (h : Head). h.flag) head)
         (ap (λ (h : Head). h.number) head)

@@ -15,7 +15,8 @@ use Rattle.segments.specs.declared.set_fault.SetReason.TheVariants as reasons
 use Rattle.segments.specs.declared.set_fault.SetFault.{SetFault}
 use Rattle.segments.proofs.Stepping.{step_end, step_fault, step_segment}
 use Rattle.base_record_894.specs.Said.{Said, reason_of, after, is_whole, kept_by}
-use Rattle.base_record_894.specs.FirstRefusal.{refusal_from, said_by, segment_at, IsReadFrom}
+use Rattle.base_record_894.specs.FirstRefusal.{refusal_from}
+use Rattle.base_record_894.specs.ReadParts.{said_by, segment_at, IsReadFrom}
 use Rattle.base_record_894.specs.declared.parts.Parts.{Parts}
 
 abbrev pub refusal_in : Said → ℕ → Cut → Option Refusal

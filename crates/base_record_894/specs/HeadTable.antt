@@ -7,6 +7,7 @@ use Rattle.segments.specs.Views.{Seg, element_of}
 use Rattle.segments.specs.Elements.{ElementFault, ◌or_else◌, at_element, said, tail_from}
 use Rattle.base_record_894.specs.declared.head.Head.{Head}
 
+-- the first element that is refused; what stands behind the seventh is kept
 abbrev pub head_fault : Seg → Option ElementFault
 head_fault seg =
     at_element 1 (flag_of (element_of seg 1))
@@ -17,6 +18,7 @@ head_fault seg =
     or_else at_element 6 (word_of (element_of seg 6))
     or_else at_element 7 (day_of (element_of seg 7))
 
+-- no day, for a head that is refused
 abbrev pub no_day : Date
 no_day = record { year = 0; month = 0; day = 0 }
 

@@ -4,3 +4,4 @@ pub mod Grammar
 pub mod PlainText
 pub mod Said
 pub mod FirstRefusal
+pub mod ReadParts

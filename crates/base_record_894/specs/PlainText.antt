@@ -19,6 +19,6 @@ pub record IsPlain894 (base : BaseRecord) (seal : Seal) (amount : ℕ) (text : L
   pub extras : base.extras ≡ []
   pub short : length text ≤ SET_BYTES
 
--- some text spells the record
+-- Some text spells the record. Lengths are meant too, as long as records are only read.
 abbrev pub IsSpelled : BaseRecord → Type 0
 IsSpelled base = (seal : Seal) × (amount : ℕ) × (text : List ℕ) × IsPlain894 base seal amount text

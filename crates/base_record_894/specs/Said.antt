@@ -27,7 +27,7 @@ pub record Said : Type 0 where
 abbrev pub nothing : Said
 nothing = record { course = course.nothing; head = None }
 
--- a text that begins as an answer is one that later work reads
+-- a text that begins as an answer, which is no kind of a base record, is one that later work reads
 abbrev pub answer_reason : Phase → Kind → Seg → Option SetReason
 answer_reason phases.Start kinds.Other seg = when (is_start_of forms.Answer seg) (reasons.NotYet (element_of seg 0))
 answer_reason _ _ seg = None
@@ -66,6 +66,6 @@ abbrev pub has_head : Option Head → Bool
 has_head (Some head) = true
 has_head None = false
 
--- the trailer has come, behind a head
+-- The trailer has come. A head has then come too, and is asked for because it may be none.
 abbrev pub is_whole : Said → Bool
 is_whole m = is_done m.course.phase && has_head m.head

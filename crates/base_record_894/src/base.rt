@@ -2,7 +2,7 @@
 
 ghost use Rattle.std.specs.Prelude.{◌≡◌, ◌≤◌, length};
 ghost use Rattle.base_record_894.specs.BaseRecord.{quantities as sum_of_quantities};
-ghost use Rattle.base_record_894.specs.FirstRefusal.{record_of, seal_of};
+ghost use Rattle.base_record_894.specs.ReadParts.{record_of, seal_of};
 ghost use Rattle.base_record_894.specs.PlainText.{IsSpelled};
 
 use crate::head::Head;

@@ -8,7 +8,8 @@ ghost use Rattle.segments.specs.declared.seal.Seal.{Seal as SealValue};
 ghost use Rattle.base_record_894.specs.BaseRecord.{BaseRecord};
 ghost use Rattle.base_record_894.specs.PlainText.{IsPlain894};
 ghost use Rattle.base_record_894.specs.Said.{nothing};
-ghost use Rattle.base_record_894.specs.FirstRefusal.{refusal_of, segment_at, said_by, IsReadFrom, IsWithin};
+ghost use Rattle.base_record_894.specs.FirstRefusal.{refusal_of, IsWithin};
+ghost use Rattle.base_record_894.specs.ReadParts.{segment_at, said_by, IsReadFrom};
 
 use crate::base::{seal_up, Base};
 use crate::parts::Parts;

@@ -4,14 +4,14 @@ ghost use Rattle.std.specs.Prelude.{◌≡◌, ℕ, ◌+◌, ◌<◌, ◌≤◌,
 ghost use Rattle.segments.specs.Reasons.{Says};
 ghost use Rattle.segments.specs.Refusal.{Answers, ended_at};
 ghost use Rattle.base_record_894.specs.Said.{nothing, answer_reason, quantity_reason, own_reason, reason_of, kept_by, after, is_whole};
-ghost use Rattle.base_record_894.specs.FirstRefusal.{IsReadFrom};
+ghost use Rattle.base_record_894.specs.ReadParts.{IsReadFrom};
 ghost use Rattle.segments.specs.declared.kind.Kind.TheVariants as kinds;
 
 use crate::base::quantities;
 use crate::head::{read_head, Head};
 use crate::parts::Parts;
 use dsd_values::{Memory, SET_BYTES};
-use segments::{at, is_start_of, not_yet, refused, Course, Form, Kind, Phase, Segment, SetFault, SetReason};
+use segments::{at, is_start_of, not_yet, refuse, Course, Form, Kind, Phase, Segment, SetFault, SetReason};
 use std::alloc::Global;
 use std::marker::Model;
 
@@ -94,7 +94,7 @@ impl Reader {
         let said = self.course.totals().quantity;
         let computed = quantities(self.course.lines());
         if said != computed {
-            return refused(
+            return refuse(
                 segment,
                 SetReason::Totals {
                     said: u64::from(said),

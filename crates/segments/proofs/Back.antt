@@ -4,11 +4,11 @@ use Rattle.block_check.specs.Crc16.{crc_of}
 use Rattle.dsd_values.specs.declared.line.Line.{Line}
 use Rattle.dsd_values.specs.declared.signature.Signature.{Signature}
 use Rattle.segments.specs.Views.{Seg, element_of}
-use Rattle.segments.specs.Tables.{line_in, label_in, totals_in, signature_in, integrity_in, found_in, again_in}
+use Rattle.segments.specs.Tables.{line_in, loop_id_in, totals_in, signature_in, integrity_in, stated_count_in, control_again_in}
 use Rattle.segments.specs.Kinds.{kind_of, next_phase}
 use Rattle.segments.specs.SoFar.{SoFar, kept, phase_in}
 use Rattle.segments.specs.Reasons.{course_reason}
-use Rattle.segments.specs.Grammar.{Shape, Tail, IsSignature, IsTotals}
+use Rattle.segments.specs.Grammar.{Shape, Shared, IsSignature, IsTotals}
 use Rattle.segments.specs.declared.stated.StatedTotals.{StatedTotals}
 use Rattle.segments.specs.declared.kind.Form.{Form}
 use Rattle.segments.specs.declared.kind.Form.TheVariants as forms
@@ -39,7 +39,7 @@ is_course phases.Start = false
 is_course phases.Head = false
 is_course _ = true
 
-module _ (form : Form) (m : SoFar) (t : Tail) (before : List Seg) (seg : Seg) (segs : List Seg) (count check : ℕ) where
+module _ (form : Form) (m : SoFar) (t : Shared) (before : List Seg) (seg : Seg) (segs : List Seg) (count check : ℕ) where
   abbrev From : Phase → Kind → Type 0
   From from kind = kind_of form seg ≡ kind → course_reason m seg kind ≡ None → IsAt before m
     → RestAt (phase_in (next_phase from kind form)) form (kept m seg kind (phase_in (next_phase from kind form)) count check) t (before ++ seg ∷ []) segs
@@ -49,7 +49,7 @@ module _ (form : Form) (m : SoFar) (t : Tail) (before : List Seg) (seg : Seg) (s
     → RestAt phases.FirstItem form (kept m seg kinds.LoopStart phases.FirstItem count check) t (before ++ seg ∷ []) segs → RestBody form m t before (seg ∷ segs)
   unfolding kept
   loop_start_back k e (line, lines, l, c, rest) =
-      (line ∷ lines, l, c, (label_in seg, (k, loop_start_right seg (no_value _ e), rest)))
+      (line ∷ lines, l, c, (loop_id_in seg, (k, loop_start_right seg (no_value _ e), rest)))
 
   totals_are : course_reason m seg kinds.Totals ≡ None → t.totals ≡ totals_in seg → IsTotals t.totals seg
   totals_are e same = subst (λ (u : StatedTotals). IsTotals u seg) (sym same) (totals_right seg (no_value _ e))
@@ -81,7 +81,7 @@ module _ (form : Form) (m : SoFar) (t : Tail) (before : List Seg) (seg : Seg) (s
   loop_end_back : From phases.Items kinds.LoopEnd
   unfolding kept
   loop_end_back k e at ((l, c), rest) =
-      ([], l ∙ sym (append-nil m.lines), c, (k, loop_end_right m.label seg (no_value _ e), rest))
+      ([], l ∙ sym (append-nil m.lines), c, (k, loop_end_right m.loop_id seg (no_value _ e), rest))
 
   totals_back : From phases.Extras kinds.Totals
   unfolding kept
@@ -105,8 +105,8 @@ module _ (form : Form) (m : SoFar) (t : Tail) (before : List Seg) (seg : Seg) (s
       let both = both_none _ _ e in
       let counted = both_none _ _ both.1 in
       let right = trailer_right seg (no_value _ both.0) in
-      let found : found_in seg ≡ length before + 1 = same_number _ _ (not_when _ _ counted.0) ∙ ap (λ (n : ℕ). n + 1) at.0 in
-      let again : again_in seg ≡ t.control = same_bytes _ _ (not_when _ _ counted.1) ∙ sym read.1 in
+      let found : stated_count_in seg ≡ length before + 1 = same_number _ _ (not_when _ _ counted.0) ∙ ap (λ (n : ℕ). n + 1) at.0 in
+      let again : control_again_in seg ≡ t.control = same_bytes _ _ (not_when _ _ counted.1) ∙ sym read.1 in
       (read, totals, g, i, (k, (right.0 ∙ ap (λ (n : ℕ). Ok n) found, right.1 ∙ ap (λ (w : List ℕ). Ok w) again, right.2), rest))
 
   -- A segment that may stand there, is plain and has no reason against it, behind the head.

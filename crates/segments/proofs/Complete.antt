@@ -8,7 +8,7 @@ use Rattle.std.proofs.lemmas.List.Splits.{slice_split_at, slice_split_none}
 use Rattle.segments.specs.declared.segment_fault.SegmentFault.{SegmentFault}
 use Rattle.segments.specs.declared.segment_fault.SegmentFault.TheVariants.{TooLong}
 use Rattle.segments.specs.Views.{Seg, Left}
-use Rattle.segments.specs.SegmentSpelling.{IsEnding, IsFront, IsPart, IsSegment, is_element_character, is_star}
+use Rattle.segments.specs.SegmentSpelling.{IsEnding, IsFront, IsPart, IsSegment, is_element_character, is_id, is_star}
 use Rattle.segments.specs.SegmentCut.{is_outside, body_length, after_body, size_of, parts_of, with_parts, seg_at, with_size, first_of, some_of, next_of, behind, left_by, left_after}
 use Rattle.segments.proofs.Judging.{a_segment}
 use Rattle.segments.proofs.Front.{short_is}
@@ -33,7 +33,7 @@ inside_joined (part ∷ next ∷ later) h =
     let behind_star = All-cons (λ b. is_outside b ≡ false) 42 (join_with_byte 42 (next ∷ later)) refl rest in
     All-append (λ b. is_outside b ≡ false) part (42 ∷ join_with_byte 42 (next ∷ later)) (inside_part part (All-head IsPart part (next ∷ later) h)) behind_star
 
-body_past : (body more : List ℕ) → All (λ b. is_outside b ≡ false) body → body_length (body ++ more) ≡ length body + body_length more
+pub body_past : (body more : List ℕ) → All (λ b. is_outside b ≡ false) body → body_length (body ++ more) ≡ length body + body_length more
 body_past [] more h = omega arith
 body_past (byte ∷ body) more h =
     let here = All-head (λ b. is_outside b ≡ false) byte body h in
@@ -73,30 +73,41 @@ size_is start body ending more inside ends short =
 
 -- ---- the segment
 
-parts_are : (parts : List (List ℕ)) (ending : List ℕ) → IsSegment parts → IsEnding ending → length (join_with_byte 42 parts) + length ending ≤ 512 → parts_of (join_with_byte 42 parts ++ ending) ≡ parts
+pub parts_are : (parts : List (List ℕ)) (ending : List ℕ) → 0 < length parts → All IsPart parts → IsEnding ending → length (join_with_byte 42 parts) + length ending ≤ 512 → parts_of (join_with_byte 42 parts ++ ending) ≡ parts
 unfolding parts_of
-parts_are [] ending s ends short = let id = s.id in absurd (grind (arith, nat_tests))
-parts_are (part ∷ later) ending s ends short =
+parts_are [] ending some characters ends short = absurd (omega arith)
+parts_are (part ∷ later) ending some characters ends short =
     let body : List ℕ = join_with_byte 42 (part ∷ later) in
     let whole : body ++ (ending ++ []) ≡ body ++ ending = ap (λ (l : List ℕ). body ++ l) (append-nil ending) in
-    let long : body_length (body ++ ending) ≡ length body = sym (ap body_length whole) ∙ (size_is 0 body ending [] (inside_joined (part ∷ later) s.characters) ends short).0 in
-    ap (λ (n : ℕ). slice_split is_star (take n (body ++ ending))) long ∙ ap (slice_split is_star) (take-append_seam body ending) ∙ split-join part later s.characters
+    let long : body_length (body ++ ending) ≡ length body = sym (ap body_length whole) ∙ (size_is 0 body ending [] (inside_joined (part ∷ later) characters) ends short).0 in
+    ap (λ (n : ℕ). slice_split is_star (take n (body ++ ending))) long ∙ ap (slice_split is_star) (take-append_seam body ending) ∙ split-join part later characters
 
-first_is : (place : ℕ) (parts : List (List ℕ)) (ending more : List ℕ) → IsSegment parts → IsEnding ending → length (join_with_byte 42 parts) + length ending ≤ 512
-    → first_of place ((join_with_byte 42 parts ++ ending) ++ more) ≡ Ok (record { start = place; bytes = join_with_byte 42 parts ++ ending; parts = parts })
+-- an id is no part of none
+some_of-id : (parts : List (List ℕ)) → is_id (get_or parts 0 []) ≡ true → 0 < length parts
+some_of-id [] id = cc
+some_of-id (part ∷ later) id = omega arith
+
+-- spelled parts are judged by their id and their number
+pub judged_is : (place : ℕ) (parts : List (List ℕ)) (ending more : List ℕ) → 0 < length parts → All IsPart parts → IsEnding ending → length (join_with_byte 42 parts) + length ending ≤ 512
+    → first_of place ((join_with_byte 42 parts ++ ending) ++ more) ≡ with_parts (record { start = place; bytes = join_with_byte 42 parts ++ ending; parts = parts })
 unfolding first_of
-first_is place parts ending more s ends short =
+judged_is place parts ending more some characters ends short =
     let body : List ℕ = join_with_byte 42 parts in
     let bytes : List ℕ = body ++ ending in
     let group = append_assoc body ending more in
-    let found = (size_is place body ending more (inside_joined parts s.characters) ends short).1 in
+    let found = (size_is place body ending more (inside_joined parts characters) ends short).1 in
     let size : size_of place (bytes ++ more) ≡ Ok (length bytes) = ap (size_of place) group ∙ found ∙ ap (λ (n : ℕ). Ok n) (sym (length-append body ending)) in
     let cut : take (length bytes) (bytes ++ more) ≡ bytes = take-append_seam bytes more in
-    let seg : Seg = record { start = place; bytes = bytes; parts = parts } in
-    let same : seg_at place bytes ≡ seg = ap (λ (ps : List (List ℕ)). record { start = place; bytes = bytes; parts = ps }) (parts_are parts ending s ends short) in
-    ap (with_size place (bytes ++ more)) size ∙ ap (λ (l : List ℕ). with_parts (seg_at place l)) cut ∙ ap with_parts same ∙ sym (a_segment seg s.id s.few)
+    ap (with_size place (bytes ++ more)) size ∙ ap (λ (l : List ℕ). with_parts (seg_at place l)) cut
+    ∙ ap (λ (ps : List (List ℕ)). with_parts (record { start = place; bytes = bytes; parts = ps })) (parts_are parts ending some characters ends short)
 
-some_left : (rest : List ℕ) (answer : Result (Option Seg) SegmentFault) → 0 < length rest → cond (nat_eq (length rest) 0) (Ok None) answer ≡ answer
+first_is : (place : ℕ) (parts : List (List ℕ)) (ending more : List ℕ) → IsSegment parts → IsEnding ending → length (join_with_byte 42 parts) + length ending ≤ 512
+    → first_of place ((join_with_byte 42 parts ++ ending) ++ more) ≡ Ok (record { start = place; bytes = join_with_byte 42 parts ++ ending; parts = parts })
+first_is place parts ending more s ends short =
+    judged_is place parts ending more (some_of-id parts s.id) s.characters ends short
+    ∙ sym (a_segment (record { start = place; bytes = join_with_byte 42 parts ++ ending; parts = parts }) s.id s.few)
+
+pub some_left : (rest : List ℕ) (answer : Result (Option Seg) SegmentFault) → 0 < length rest → cond (nat_eq (length rest) 0) (Ok None) answer ≡ answer
 some_left rest answer some =
     let test : nat_eq (length rest) 0 ≡ false = grind (arith, nat_tests) in
     rw test refl

@@ -7,13 +7,15 @@ use Rattle.segments.specs.declared.segment_fault.SegmentFault.{SegmentFault}
 use Rattle.segments.specs.Views.{Seg, Left}
 use Rattle.segments.specs.SegmentSpelling.{IsFront, SpellsSegment, SpellsSegments}
 use Rattle.segments.specs.SegmentCut.{Cut, next_of, left_after, cut_left, cut_of, text_start}
-use Rattle.segments.specs.CutSpelling.{IsCut, StandsIn}
+use Rattle.segments.specs.SegmentRefusal.{IsFault}
+use Rattle.segments.specs.CutSpelling.{IsCut, StandsIn, StartsFrom}
 use Rattle.segments.proofs.Complete.{front_is}
+use Rattle.segments.proofs.Refused.{fault_of-next, next_of-fault}
 use Rattle.segments.proofs.Spelled.{next_front, end_of-next, next_of-end}
 use Rattle.segments.proofs.Stepping.{front_shorter, step_end, step_fault, step_segment}
 
 abbrev Stops : Option SegmentFault → List ℕ → ℕ → Type 0
-Stops fault rest place = MatchOption fault (rest ≡ []) (λ f. next_of (record { rest = rest; place = place }) ≡ Err f)
+Stops fault rest place = MatchOption fault (rest ≡ []) (IsFault (record { rest = rest; place = place }))
 
 -- ---- what is cut is spelled
 
@@ -32,7 +34,7 @@ longer seg left next cut f c = record {
 cut_spelled : (calls : ℕ) (left : Left) (answer : Result (Option Seg) SegmentFault) → next_of left ≡ answer → length left.rest ≤ calls → IsCut (cut_left left) left
 cut_spelled calls left (Err fault) e h =
     let same : next_of (record { rest = left.rest; place = left.place + 0 }) ≡ Err fault = ap (λ (n : ℕ). next_of (record { rest = left.rest; place = n })) (add-zero left.place) ∙ e in
-    let here : IsCut (record { segments = []; fault = Some fault }) left = record { front = []; rest = left.rest; joined = refl; spelled = refl; stopped = same } in
+    let here : IsCut (record { segments = []; fault = Some fault }) left = record { front = []; rest = left.rest; joined = refl; spelled = refl; stopped = fault_of-next (record { rest = left.rest; place = left.place + 0 }) fault same } in
     subst (λ (c : Cut). IsCut c left) (sym (step_fault left fault e)) here
 cut_spelled calls left (Ok None) e h =
     let here : IsCut (record { segments = []; fault = None }) left = record { front = []; rest = left.rest; joined = refl; spelled = refl; stopped = end_of-next left e } in
@@ -53,7 +55,7 @@ is_cut left = cut_spelled (length left.rest) left (next_of left) refl (omega ari
 
 end_is : (fault : Option SegmentFault) (left : Left) → Stops fault left.rest left.place → cut_left left ≡ record { segments = []; fault = fault }
 end_is None left s = step_end left (next_of-end left s)
-end_is (Some fault) left s = step_fault left fault s
+end_is (Some fault) left s = step_fault left fault (next_of-fault left fault s)
 
 pub cut_is : (segments : List Seg) (fault : Option SegmentFault) (left : Left) (front rest : List ℕ) → left.rest ≡ front ++ rest → SpellsSegments left.place segments front → Stops fault rest (left.place + length front) → cut_left left ≡ record { segments = segments; fault = fault }
 cut_is [] fault left front rest joined spelled stopped =
@@ -106,3 +108,7 @@ all_stand (seg ∷ more) text before front rest e h =
     let past : text ≡ (before ++ seg.bytes) ++ (later ++ rest) = there ∙ sym (append_assoc before seg.bytes (later ++ rest)) in
     let spelled = subst (λ (n : ℕ). SpellsSegments n more later) (sym (length-append before seg.bytes)) h.2.2 in
     All-cons (StandsIn text) seg more (stands text before (later ++ rest) seg there h.1) (all_stand more text (before ++ seg.bytes) later rest past spelled)
+
+pub starts_of-spelled : (place : ℕ) (segments : List Seg) (text : List ℕ) → SpellsSegments place segments text → StartsFrom place segments
+starts_of-spelled place [] text h = tt
+starts_of-spelled place (seg ∷ more) text h = (h.1, starts_of-spelled (place + length seg.bytes) more h.2.0 h.2.2)

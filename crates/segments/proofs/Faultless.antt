@@ -7,9 +7,9 @@ use Rattle.dsd_values.specs.declared.signature.Signature.{Signature}
 use Rattle.dsd_values.specs.declared.fault.ValueFault.TheVariants as faults
 use Rattle.segments.specs.Views.{Seg, element_of}
 use Rattle.segments.specs.Elements.{ElementFault, ◌or_else◌, said}
-use Rattle.segments.specs.Tables.{item_fault, line_in, start_fault, control_in, loop_start_fault, label_in, totals_fault, totals_in, signature_fault, signature_in, integrity_fault, integrity_in, trailer_fault, found_in, again_in}
-use Rattle.segments.specs.Reasons.{label_fault, loop_end_fault}
-use Rattle.segments.specs.Grammar.{IsStart, IsLabel, IsItem, IsTotals, IsSignature, IsNoLonger}
+use Rattle.segments.specs.Tables.{item_fault, line_in, start_fault, control_in, loop_start_fault, loop_id_in, totals_fault, totals_in, signature_fault, signature_in, integrity_fault, integrity_in, trailer_fault, stated_count_in, control_again_in}
+use Rattle.segments.specs.Reasons.{loop_id_fault, loop_end_fault}
+use Rattle.segments.specs.Grammar.{IsStart, IsLoopId, IsItem, IsTotals, IsSignature, IsNoLonger}
 use Rattle.segments.specs.declared.stated.StatedTotals.{StatedTotals}
 use Rattle.dsd_values.specs.Reading.{check_of, plain_number_of, filled_word_of, word_between}
 use Rattle.segments.proofs.Small.{both_none, none_then, at_ok, ok_at, ok_said, are_empty, empty_ones, bytes_are, are_bytes}
@@ -80,10 +80,10 @@ start_right control seg e c =
 pub right_start : (control : List ℕ) (seg : Seg) → IsStart control seg → start_fault seg ≡ None
 right_start control seg s = none_then _ _ (ok_at 2 _ _ s.0) (empty_ones _ _ s.1)
 
-pub loop_start_right : (seg : Seg) → loop_start_fault seg ≡ None → IsLabel (label_in seg) seg
+pub loop_start_right : (seg : Seg) → loop_start_fault seg ≡ None → IsLoopId (loop_id_in seg) seg
 loop_start_right seg e = let a = both_none _ _ e in (at_ok 1 [] _ a.0, are_empty _ _ a.1)
 
-pub right_loop_start : (label : List ℕ) (seg : Seg) → IsLabel label seg → loop_start_fault seg ≡ None
+pub right_loop_start : (label : List ℕ) (seg : Seg) → IsLoopId label seg → loop_start_fault seg ≡ None
 right_loop_start label seg s = none_then _ _ (ok_at 1 _ _ s.0) (empty_ones _ _ s.1)
 
 same_label : (test : Bool) (f : ElementFault) → (if test then None else Some f) ≡ None → test ≡ true
@@ -94,16 +94,16 @@ label_same : (test : Bool) (f : ElementFault) → test ≡ true → (if test the
 label_same true f e = refl
 label_same false f e = cc
 
-pub loop_end_right : (label : List ℕ) (seg : Seg) → loop_end_fault label seg ≡ None → IsLabel label seg
+pub loop_end_right : (label : List ℕ) (seg : Seg) → loop_end_fault label seg ≡ None → IsLoopId label seg
 loop_end_right label seg e =
     let a = both_none _ _ e in
     let b = both_none _ _ a.1 in
-    let same : label_in seg ≡ label = bytes_are _ _ (same_label _ _ b.0) in
+    let same : loop_id_in seg ≡ label = bytes_are _ _ (same_label _ _ b.0) in
     (at_ok 1 [] _ a.0 ∙ ap (λ (w : List ℕ). Ok w) same, are_empty _ _ b.1)
 
-pub right_loop_end : (label : List ℕ) (seg : Seg) → IsLabel label seg → loop_end_fault label seg ≡ None
+pub right_loop_end : (label : List ℕ) (seg : Seg) → IsLoopId label seg → loop_end_fault label seg ≡ None
 right_loop_end label seg s =
-    let same : label_in seg ≡ label = sym (ok_said [] _ _ s.0) in
+    let same : loop_id_in seg ≡ label = sym (ok_said [] _ _ s.0) in
     none_then _ _ (ok_at 1 _ _ s.0) (none_then _ _ (label_same _ _ (are_bytes _ _ same)) (empty_ones _ _ s.1))
 
 -- ---- totals and signature
@@ -150,7 +150,7 @@ integrity_right seg e = let a = both_none _ _ e in (at_ok 1 0 _ a.0, are_empty _
 pub right_integrity : (check : ℕ) (seg : Seg) → check_of (element_of seg 1) ≡ Ok check → IsNoLonger 1 seg → integrity_fault seg ≡ None
 right_integrity check seg c ends = none_then _ _ (ok_at 1 _ _ c) (empty_ones _ _ ends)
 
-pub trailer_right : (seg : Seg) → trailer_fault seg ≡ None → (plain_number_of (element_of seg 1) ≡ Ok (found_in seg)) × (filled_word_of (element_of seg 2) ≡ Ok (again_in seg)) × IsNoLonger 2 seg
+pub trailer_right : (seg : Seg) → trailer_fault seg ≡ None → (plain_number_of (element_of seg 1) ≡ Ok (stated_count_in seg)) × (filled_word_of (element_of seg 2) ≡ Ok (control_again_in seg)) × IsNoLonger 2 seg
 trailer_right seg e =
     let a = both_none _ _ e in
     let b = both_none _ _ a.1 in

@@ -3,11 +3,11 @@ use Rattle.std.proofs.Common.{◌≡◌, ℕ, ◌+◌, ◌≤◌, ◌<◌, ◌==
 use Rattle.dsd_values.specs.declared.line.Line.{Line}
 use Rattle.dsd_values.specs.declared.limits.TheConstants.{MOST_LINES}
 use Rattle.segments.specs.Views.{Seg, element_of}
-use Rattle.segments.specs.Tables.{line_in, label_in, totals_in, signature_in, integrity_in, found_in, again_in}
+use Rattle.segments.specs.Tables.{line_in, loop_id_in, totals_in, signature_in, integrity_in, stated_count_in, control_again_in}
 use Rattle.segments.specs.Kinds.{kind_of, next_phase}
 use Rattle.segments.specs.SoFar.{SoFar, kept, phase_in}
 use Rattle.segments.specs.Reasons.{course_reason, has_line}
-use Rattle.segments.specs.Grammar.{Shape, Tail, IsItem, IsTotals, Items, LoopEnd, Closing, Body, AreApart, IsSound}
+use Rattle.segments.specs.Grammar.{Shape, Shared, IsItem, IsTotals, Items, LoopEnd, Closing, Body, AreApart, IsSound}
 use Rattle.segments.specs.declared.kind.Form.{Form}
 use Rattle.segments.specs.declared.kind.Kind.{Kind}
 use Rattle.segments.specs.declared.kind.Kind.TheVariants as kinds
@@ -18,7 +18,7 @@ use Rattle.segments.proofs.Faultless.{right_item, line_said, right_loop_start, r
 use Rattle.segments.proofs.Apart.{apart_at}
 use Rattle.segments.proofs.Rest.{RestAt, RestBody, IsAt}
 
-module _ (form : Form) (m : SoFar) (t : Tail) (before : List Seg) (seg : Seg) (segs : List Seg) (count check : ℕ) (sound : IsSound t.lines) (at : IsAt before m) where
+module _ (form : Form) (m : SoFar) (t : Shared) (before : List Seg) (seg : Seg) (segs : List Seg) (count check : ℕ) (sound : IsSound t.lines) (at : IsAt before m) where
   abbrev Goes : Phase → Kind → Type 0
   Goes from kind = (kind_of form seg ≡ kind) × (course_reason m seg kind ≡ None)
     × RestAt (phase_in (next_phase from kind form)) form (kept m seg kind (phase_in (next_phase from kind form)) count check) t (before ++ seg ∷ []) segs
@@ -49,13 +49,13 @@ module _ (form : Form) (m : SoFar) (t : Tail) (before : List Seg) (seg : Seg) (s
   unfolding kept
   first_item_on (line, lines, l, c, (none, (k, i, rest))) = (k, item_none line lines i l, (lines, line_behind line lines none i l, c, rest))
 
-  pub item_on : (line : Line) (lines : List Line) → t.lines ≡ m.lines ++ line ∷ lines → t.control ≡ m.control → Items form (line ∷ lines) (LoopEnd form m.label (Closing form t)) before (seg ∷ segs) → Goes phases.Items kinds.Item
+  pub item_on : (line : Line) (lines : List Line) → t.lines ≡ m.lines ++ line ∷ lines → t.control ≡ m.control → Items form (line ∷ lines) (LoopEnd form m.loop_id (Closing form t)) before (seg ∷ segs) → Goes phases.Items kinds.Item
   unfolding kept
   item_on line lines l c (none, (k, i, rest)) = (k, item_none line lines i l, (lines, line_behind line lines none i l, c, rest))
 
-  pub loop_end_on : t.lines ≡ m.lines ++ [] → t.control ≡ m.control → LoopEnd form m.label (Closing form t) before (seg ∷ segs) → Goes phases.Items kinds.LoopEnd
+  pub loop_end_on : t.lines ≡ m.lines ++ [] → t.control ≡ m.control → LoopEnd form m.loop_id (Closing form t) before (seg ∷ segs) → Goes phases.Items kinds.LoopEnd
   unfolding kept
-  loop_end_on l c (k, w, rest) = (k, value_none _ (right_loop_end m.label seg w), ((l ∙ append-nil m.lines, c), rest))
+  loop_end_on l c (k, w, rest) = (k, value_none _ (right_loop_end m.loop_id seg w), ((l ∙ append-nil m.lines, c), rest))
 
   pub signature_on : RestAt phases.Signature form m t before (seg ∷ segs) → Goes phases.Signature kinds.Signature
   unfolding kept
@@ -70,7 +70,7 @@ module _ (form : Form) (m : SoFar) (t : Tail) (before : List Seg) (seg : Seg) (s
   pub trailer_on : RestAt phases.Trailer form m t before (seg ∷ segs) → Goes phases.Trailer kinds.Trailer
   unfolding kept
   trailer_on (read, totals, g, i, (k, (n, w, ends), rest)) =
-      let found : found_in seg ≡ m.count + 1 = sym (ok_said 0 _ _ n) ∙ ap (λ (u : ℕ). u + 1) (sym at.0) in
-      let again : again_in seg ≡ m.control = sym (ok_said [] _ _ w) ∙ read.1 in
+      let found : stated_count_in seg ≡ m.count + 1 = sym (ok_said 0 _ _ n) ∙ ap (λ (u : ℕ). u + 1) (sym at.0) in
+      let again : control_again_in seg ≡ m.control = sym (ok_said [] _ _ w) ∙ read.1 in
       (k, none_then _ _ (value_none _ (right_trailer (length before + 1) t.control seg n w ends)) (none_then _ _ (when_not _ _ (number_same _ _ found)) (when_not _ _ (bytes_same _ _ again))),
         (read, totals, g, i, rest))

@@ -13,7 +13,7 @@ body_length-take (suc n) (byte ∷ rest) =
     let later = body_length-take n rest in
     elim (cases_Bool (is_outside byte)) [ inl outside ↦ rw outside (omega arith) | inr inside ↦ rw inside (omega arith) ]
 
-long_is : (start body : ℕ) (rest : List ℕ) → 512 < body → (if nat_lt 512 body then Err (TooLong start) else after_body start body (drop body rest)) ≡ Err (TooLong start)
+pub long_is : (start body : ℕ) (rest : List ℕ) → 512 < body → (if nat_lt 512 body then Err (TooLong start) else after_body start body (drop body rest)) ≡ Err (TooLong start)
 long_is start body rest far = grind (arith, nat_tests)
 
 pub short_is : (start body : ℕ) (rest : List ℕ) → body ≤ 512 → (if nat_lt 512 body then Err (TooLong start) else after_body start body (drop body rest)) ≡ after_body start body (drop body rest)

@@ -17,3 +17,5 @@ pub mod Spelled
 pub mod Complete
 pub mod Stepping
 pub mod Cutting
+pub mod Refused
+pub mod Ordered

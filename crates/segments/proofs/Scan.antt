@@ -1,5 +1,5 @@
 -- One pass over a text finds where its parts end.
-use Rattle.std.proofs.Common.{◌≡◌, ℕ, zero, suc, ◌+◌, ◌<◌, ◌≤◌, true, false, cond, List, [], ◌∷◌, ◌++◌, length, take, get_or, inl, inr, refl, sym, ◌∙◌, ap, arith, add-zero, append-nil, length-append}
+use Rattle.std.proofs.Common.{◌≡◌, ℕ, zero, suc, ◌+◌, ◌<◌, ◌≤◌, true, false, cond, List, [], ◌∷◌, ◌++◌, length, take, get_or, inl, inr, refl, sym, ◌∙◌, ap, arith, below_more, add-zero, append-nil, length-append}
 use Rattle.std.specs.List.{before_first, slice_split, onto_first}
 use Rattle.std.proofs.lemmas.Bool.{cases_Bool}
 use Rattle.std.proofs.lemmas.Bool.Decides.{nat_tests}
@@ -13,10 +13,6 @@ use Rattle.segments.specs.PartEnds.{ends_from}
 pub stars_from : ℕ → List ℕ → List ℕ
 stars_from place [] = []
 stars_from place (byte ∷ more) = cond (is_star byte) (place ∷ stars_from (place + 1) more) (stars_from (place + 1) more)
-
-pub stars_from-nil : (place : ℕ) → stars_from place [] ≡ []
-unfolding stars_from
-stars_from-nil place = refl
 
 stars_from-push : (place : ℕ) (bytes : List ℕ) (byte : ℕ) → stars_from place (bytes ++ byte ∷ []) ≡ stars_from place bytes ++ cond (is_star byte) ((place + length bytes) ∷ []) []
 unfolding stars_from
@@ -76,51 +72,52 @@ taken_all ends place room = take_all 32 (ends ++ place ∷ []) (omega (arith, le
 pub taken_full : (ends : List ℕ) (place : ℕ) → length ends ≡ 32 → take 32 (ends ++ place ∷ []) ≡ ends
 taken_full ends place full = take_at ends (place ∷ []) 32 full
 
--- one byte more
+-- up to this place no byte is outside, and these are the first ends
+pub record Scanned (front found : List ℕ) (place : ℕ) : Type 0 where
+  pub ends : found ≡ take 32 (stars_from 0 (take place front))
+  pub inside : (k : ℕ) → k < place → is_outside (get_or front k 0) ≡ false
+
+pub scanned_none : (front ends : List ℕ) → ends ≡ [] → Scanned front ends 0
+unfolding stars_from
+scanned_none front ends e = record { ends = e; inside = λ k under. absurd (omega arith) }
+
 stars_more : (front : List ℕ) (place : ℕ) → place < length front → stars_from 0 (take (place + 1) front) ≡ stars_from 0 (take place front) ++ cond (is_star (get_or front place 0)) (place ∷ []) []
-stars_more front place inside =
-    let front_is = take_more front place 0 inside in
+stars_more front place within =
     let long : 0 + length (take place front) ≡ place = omega (arith, length-take-le place front) in
-    let step = stars_from-push 0 (take place front) (get_or front place 0) in
-    ap (stars_from 0) front_is ∙ step ∙ ap (λ (n : ℕ). stars_from 0 (take place front) ++ cond (is_star (get_or front place 0)) (n ∷ []) []) long
+    ap (stars_from 0) (take_more front place 0 within) ∙ stars_from-push 0 (take place front) (get_or front place 0)
+    ∙ ap (λ (n : ℕ). stars_from 0 (take place front) ++ cond (is_star (get_or front place 0)) (n ∷ []) []) long
 
-pub star_more : (front ends : List ℕ) (place : ℕ) → place < length front → ends ≡ take 32 (stars_from 0 (take place front)) → is_star (get_or front place 0) ≡ true → take 32 (ends ++ place ∷ []) ≡ take 32 (stars_from 0 (take (place + 1) front))
-star_more front ends place inside e star =
-    let step = stars_more front place inside in
-    let more : stars_from 0 (take (place + 1) front) ≡ stars_from 0 (take place front) ++ place ∷ [] = rw star at step in
-    rw (e, more) (take_push 32 (stars_from 0 (take place front)) place)
+star_inside : (byte : ℕ) → byte ≡ 42 → (is_outside byte ≡ false) × (is_star byte ≡ true)
+star_inside byte e = grind (arith, nat_tests)
 
-pub no_star_more : (front : List ℕ) (place : ℕ) → place < length front → is_star (get_or front place 0) ≡ false → stars_from 0 (take (place + 1) front) ≡ stars_from 0 (take place front)
-no_star_more front place inside other =
-    let step = stars_more front place inside in
-    let same : stars_from 0 (take (place + 1) front) ≡ stars_from 0 (take place front) ++ [] = rw other at step in
-    same ∙ append-nil (stars_from 0 (take place front))
+no_star : (byte : ℕ) → (byte ≡ 42 → ⊥) → is_star byte ≡ false
+no_star byte other = grind (arith, nat_tests)
+
+-- one byte more: a separator, or another
+pub scanned_star : (front ends : List ℕ) (place : ℕ) → Scanned front ends place → place < length front → get_or front place 0 ≡ 42 → Scanned front (take 32 (ends ++ place ∷ [])) (place + 1)
+scanned_star front ends place s within star =
+    let is = star_inside (get_or front place 0) star in
+    let more : stars_from 0 (take (place + 1) front) ≡ stars_from 0 (take place front) ++ place ∷ [] = rw is.1 at (stars_more front place within) in
+    record { ends = rw (s.ends, more) (take_push 32 (stars_from 0 (take place front)) place); inside = below_more _ _ s.inside is.0 }
+
+pub scanned_other : (front ends : List ℕ) (place : ℕ) → Scanned front ends place → place < length front → is_outside (get_or front place 0) ≡ false → (get_or front place 0 ≡ 42 → ⊥) → Scanned front ends (place + 1)
+scanned_other front ends place s within inside other =
+    let is = no_star (get_or front place 0) other in
+    let more : stars_from 0 (take (place + 1) front) ≡ stars_from 0 (take place front) ++ [] = rw is at (stars_more front place within) in
+    record { ends = s.ends ∙ ap (take 32) (sym (more ∙ append-nil (stars_from 0 (take place front)))); inside = below_more _ _ s.inside inside }
+
+pub behind_star : (byte : ℕ) → (42 < byte) × (byte ≤ 0x7E) → (is_outside byte ≡ false) × (byte ≡ 42 → ⊥)
+behind_star byte h = let low = h.0 in let high = h.1 in (grind (arith, nat_tests), λ e. omega arith)
 
 -- at the first byte that is outside, or at the end, all parts are found
-pub length_found : (front : List ℕ) (place : ℕ) → place ≤ length front → ((k : ℕ) → k < place → is_outside (get_or front k 0) ≡ false) → (place < length front → is_outside (get_or front place 0) ≡ true) → body_length front ≡ place
-length_found front place within before at = position_or_len_is is_outside front place 0 within before at
-
-pub ends_found : (front ends : List ℕ) (place : ℕ) → place ≤ length front → body_length front ≡ place → ends ≡ take 32 (stars_from 0 (take place front)) → take 32 (ends ++ place ∷ []) ≡ take 32 (ends_from 0 (parts_of front))
+pub scanned_all : (front ends : List ℕ) (place : ℕ) → Scanned front ends place → place ≤ length front → (place < length front → is_outside (get_or front place 0) ≡ true)
+    → (body_length front ≡ place) × (take 32 (ends ++ place ∷ []) ≡ take 32 (ends_from 0 (parts_of front)))
 unfolding parts_of
-ends_found front ends place within found e =
+scanned_all front ends place s within here =
+    let found : body_length front ≡ place = position_or_len_is is_outside front place 0 within s.inside here in
     let long : 0 + length (take place front) ≡ place = omega (arith, length-take-le place front) in
     let all : ends_from 0 (slice_split is_star (take place front)) ≡ stars_from 0 (take place front) ++ place ∷ [] =
     ends_from-slice_split 0 (take place front) ∙ ap (λ (n : ℕ). stars_from 0 (take place front) ++ n ∷ []) long in
     let body : ends_from 0 (slice_split is_star (take (body_length front) front)) ≡ ends_from 0 (slice_split is_star (take place front)) =
     ap (λ (n : ℕ). ends_from 0 (slice_split is_star (take n front))) found in
-    ap (λ (l : List ℕ). take 32 (l ++ place ∷ [])) e ∙ take_push 32 (stars_from 0 (take place front)) place ∙ ap (take 32) (sym (body ∙ all))
-
-pub outside_below : (byte : ℕ) → byte < 32 → is_outside byte ≡ true
-outside_below byte low = grind (arith, nat_tests)
-
-pub outside_above : (byte : ℕ) → 127 ≤ byte → is_outside byte ≡ true
-outside_above byte high = grind (arith, nat_tests)
-
-pub inside_between : (byte : ℕ) → 32 ≤ byte → byte < 127 → is_outside byte ≡ false
-inside_between byte low high = grind (arith, nat_tests)
-
-pub inside_star : (byte : ℕ) → byte ≡ 42 → (is_outside byte ≡ false) × (is_star byte ≡ true)
-inside_star byte e = grind (arith, nat_tests)
-
-pub other_than_star : (byte : ℕ) → (byte ≡ 42 → ⊥) → is_star byte ≡ false
-other_than_star byte ne = grind (arith, nat_tests)
+    (found, ap (λ (l : List ℕ). take 32 (l ++ place ∷ [])) s.ends ∙ take_push 32 (stars_from 0 (take place front)) place ∙ ap (take 32) (sym (body ∙ all)))

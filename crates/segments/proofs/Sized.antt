@@ -104,7 +104,7 @@ are_parts (byte ∷ more) h =
       | inr other ↦ rw other (onto_part byte (slice_split is_star more) (character_is byte here other) later)
     ]
 
-body_inside : (rest : List ℕ) → All (λ b. is_outside b ≡ false) (before_first is_outside rest)
+pub body_inside : (rest : List ℕ) → All (λ b. is_outside b ≡ false) (before_first is_outside rest)
 body_inside rest = λ k d under.
     let size = length-take (body_length rest) rest in
     let before : k < body_length rest = omega arith in

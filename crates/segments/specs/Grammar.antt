@@ -1,4 +1,5 @@
--- Which lists of segments are sets: the grammar that both sets share, driven by the value, apart from any reading.
+-- Which lists of segments are sets: the grammar that both sets share (this project's profile), driven by the value. An
+-- element spells a field where its reader answers that field; dsd_values says of each reader which texts those are.
 use Rattle.std.specs.Prelude.{◌≡◌, ℕ, ◌+◌, ◌<◌, ◌≤◌, Bool, false, List, [], ◌∷◌, ◌++◌, length, drop, Ok, Option}
 use Rattle.std.specs.List.{flat_map}
 use Rattle.block_check.specs.Crc16.{crc_of}
@@ -24,6 +25,7 @@ abbrev pub One : Form → Kind → (List Seg → Seg → Type 0) → Shape → S
 One form kind Says rest before [] = ⊥
 One form kind Says rest before (seg ∷ segs) = (kind_of form seg ≡ kind) × Says before seg × rest (before ++ seg ∷ []) segs
 
+-- nothing more
 abbrev pub End : Shape
 End before segs = segs ≡ []
 
@@ -41,9 +43,9 @@ IsNoLonger last seg = AreEmpty (drop (last + 1) seg.parts)
 abbrev pub IsStart : List ℕ → Seg → Type 0
 IsStart control seg = (word_between 4 9 (element_of seg 2) ≡ Ok control) × IsNoLonger 2 seg
 
--- LS and LE: the label of the loop
-abbrev pub IsLabel : List ℕ → Seg → Type 0
-IsLabel label seg = (word_between 1 6 (element_of seg 1) ≡ Ok label) × IsNoLonger 1 seg
+-- LS and LE: the id of the loop
+abbrev pub IsLoopId : List ℕ → Seg → Type 0
+IsLoopId loop_id seg = (word_between 1 6 (element_of seg 1) ≡ Ok loop_id) × IsNoLonger 1 seg
 
 -- G83 and G89: a line
 pub record IsItem (line : Line) (seg : Seg) : Type 0 where
@@ -72,36 +74,41 @@ pub record IsSignature (signature : Signature) (seg : Seg) : Type 0 where
   pub name : word_of (element_of seg 2) ≡ Ok signature.name
   pub ends : IsNoLonger 2 seg
 
--- ---- what both sets have behind their head
+-- ---- what both sets have besides their head
 
-pub record Tail : Type 0 where
+pub record Shared : Type 0 where
   pub control : List ℕ
   pub lines : List Line
   pub totals : StatedTotals
   pub signature : Signature
   pub check : ℕ
 
+-- the segments, joined
 abbrev pub bytes_of : List Seg → List ℕ
 bytes_of segs = flat_map (λ (seg : Seg). seg.bytes) segs
 
 -- SE: the number of segments with ST and SE, and the control number again
-abbrev pub IsTrailer : Tail → List Seg → Seg → Type 0
+abbrev pub IsTrailer : Shared → List Seg → Seg → Type 0
 IsTrailer t before seg = (plain_number_of (element_of seg 1) ≡ Ok (length before + 1)) × (filled_word_of (element_of seg 2) ≡ Ok t.control) × IsNoLonger 2 seg
 
 -- G85: the CRC-16 of the bytes of the segments before it
-abbrev pub IsIntegrity : Tail → List Seg → Seg → Type 0
+abbrev pub IsIntegrity : Shared → List Seg → Seg → Type 0
 IsIntegrity t before seg = (check_of (element_of seg 1) ≡ Ok t.check) × (t.check ≡ crc_of (bytes_of before)) × IsNoLonger 1 seg
 
-abbrev pub Trailer : Form → Tail → Shape
+-- SE, and nothing behind it
+abbrev pub Trailer : Form → Shared → Shape
 Trailer form t = One form kinds.Trailer (IsTrailer t) End
 
-abbrev pub Integrity : Form → Tail → Shape
+-- G85, then SE
+abbrev pub Integrity : Form → Shared → Shape
 Integrity form t = One form kinds.Integrity (IsIntegrity t) (Trailer form t)
 
-abbrev pub Signed : Form → Tail → Shape
+-- G86, then G85 and SE
+abbrev pub Signed : Form → Shared → Shape
 Signed form t = One form kinds.Signature (λ _ seg. IsSignature t.signature seg) (Integrity form t)
 
-abbrev pub Closing : Form → Tail → Shape
+-- G84, G86, G85 and SE
+abbrev pub Closing : Form → Shared → Shape
 Closing form t = One form kinds.Totals (λ _ seg. IsTotals t.totals seg) (Signed form t)
 
 -- an item for each of these lines, and then the rest; a plain set has nothing behind its items
@@ -109,16 +116,18 @@ abbrev pub Items : Form → List Line → Shape → Shape
 Items form [] rest before segs = rest before segs
 Items form (line ∷ lines) rest before segs = (line.extras ≡ []) × One form kinds.Item (λ _ seg. IsItem line seg) (Items form lines rest) before segs
 
+-- LE, which repeats the id of its loop, and then the rest
 abbrev pub LoopEnd : Form → List ℕ → Shape → Shape
-LoopEnd form label rest = One form kinds.LoopEnd (λ _ seg. IsLabel label seg) rest
+LoopEnd form loop_id rest = One form kinds.LoopEnd (λ _ seg. IsLoopId loop_id seg) rest
 
 -- a loop where there are lines
 abbrev pub Loop : Form → List Line → Shape → Shape
 Loop form [] rest before segs = rest before segs
 Loop form (line ∷ lines) rest before segs =
-    (label : List ℕ) × One form kinds.LoopStart (λ _ seg. IsLabel label seg) (Items form (line ∷ lines) (LoopEnd form label rest)) before segs
+    (loop_id : List ℕ) × One form kinds.LoopStart (λ _ seg. IsLoopId loop_id seg) (Items form (line ∷ lines) (LoopEnd form loop_id rest)) before segs
 
-abbrev pub Body : List Line → Form → Tail → Shape
+-- a loop where there are lines, and the closing
+abbrev pub Body : List Line → Form → Shared → Shape
 Body lines form t = Loop form lines (Closing form t)
 
 -- ---- what holds of the lines as a whole
@@ -128,6 +137,7 @@ abbrev pub AreApart : List Line → Type 0
 AreApart [] = Unit {0}
 AreApart (line ∷ lines) = (has_line line.dsd lines ≡ false) × AreApart lines
 
+-- what a set asks of its lines
 pub record IsSound (lines : List Line) : Type 0 where
   pub apart : AreApart lines
   pub limit : length lines ≤ MOST_LINES

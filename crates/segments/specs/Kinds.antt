@@ -1,4 +1,5 @@
--- What segments are by their ids, and which may stand where: the order of both sets.
+-- What segments are by their ids, whose names are those of X12, and which may stand where: the order of both sets (this
+-- project's profile).
 use Rattle.std.specs.Prelude.{ℕ, Bool, true, false, ◌&&◌, List, [], ◌∷◌, codes, Option, Some, None, if◌then◌else◌}
 use Rattle.std.specs.Str.{bytes_eq}
 use Rattle.segments.specs.Views.{Seg, element_of}
@@ -9,6 +10,7 @@ use Rattle.segments.specs.declared.kind.Form.TheVariants as forms
 use Rattle.segments.specs.declared.phase.Phase.{Phase}
 use Rattle.segments.specs.declared.phase.Phase.TheVariants as phases
 
+-- the segment has this id
 abbrev pub has_id : Seg → List ℕ → Bool
 has_id seg id = bytes_eq (element_of seg 0) id
 
@@ -17,6 +19,7 @@ abbrev pub set_code : Form → List ℕ
 set_code forms.Base = codes "894"
 set_code forms.Answer = codes "895"
 
+-- the ids of the head, of a reference and of an item
 abbrev pub head_id : Form → List ℕ
 head_id forms.Base = codes "G82"
 head_id forms.Answer = codes "G87"
@@ -33,6 +36,7 @@ item_id forms.Answer = codes "G89"
 abbrev pub is_start_of : Form → Seg → Bool
 is_start_of form seg = has_id seg (codes "ST") && bytes_eq (element_of seg 1) (set_code form)
 
+-- what a segment is in a set of this form; an ST of the other set is no kind of it
 unfoldable pub kind_of : Form → Seg → Kind
 kind_of form seg =
     if is_start_of form seg then kinds.Start
@@ -78,6 +82,7 @@ next_phase phases.Integrity kinds.Integrity _ = Some phases.Trailer
 next_phase phases.Trailer kinds.Trailer _ = Some phases.Done
 next_phase _ _ _ = None
 
+-- the set is whole
 abbrev pub is_done : Phase → Bool
 is_done phases.Done = true
 is_done _ = false

@@ -13,3 +13,4 @@ pub mod Numbers
 pub mod Closing
 pub mod Order
 pub mod CutSpelling
+pub mod SegmentRefusal

@@ -1,4 +1,4 @@
--- The order of a set, as the kinds of its segments, apart from any reading.
+-- The order of both sets (this project's profile), as the kinds of their segments, apart from any reading.
 use Rattle.std.specs.Prelude.{◌≡◌, ◌⊎◌, List, [], ◌∷◌, ◌++◌, Option, Some, None}
 use Rattle.segments.specs.declared.kind.Kind.{Kind}
 use Rattle.segments.specs.declared.kind.Kind.TheVariants as kinds
@@ -8,6 +8,7 @@ use Rattle.segments.specs.declared.phase.Phase.{Phase}
 use Rattle.segments.specs.declared.phase.Phase.TheVariants as phases
 use Rattle.segments.specs.Kinds.{next_phase}
 
+-- what the kinds of the segments that are left may be
 abbrev pub Kinds : Type 1
 Kinds = List Kind → Type 0
 
@@ -21,9 +22,11 @@ abbrev pub Any : Kind → Kinds → Kinds
 Any kind rest [] = rest []
 Any kind rest (k ∷ ks) = ((k ≡ kind) × Any kind rest ks) ⊎ rest (k ∷ ks)
 
+-- nothing more
 abbrev pub Nothing : Kinds
 Nothing ks = ks ≡ []
 
+-- G84, G86, G85 and SE
 abbrev pub Closing : Kinds
 Closing = This kinds.Totals (This kinds.Signature (This kinds.Integrity (This kinds.Trailer Nothing)))
 
@@ -32,6 +35,7 @@ abbrev pub Extras : Kinds
 Extras [] = ⊥
 Extras (k ∷ ks) = ((k ≡ kinds.Allowance) × Extras ks) ⊎ (((k ≡ kinds.Note) × Extras ks) ⊎ Closing (k ∷ ks))
 
+-- behind the loop
 abbrev pub Record : Form → Kinds
 Record forms.Base = Extras
 Record forms.Answer = Closing
@@ -42,6 +46,7 @@ Behind rest [] = ⊥
 Behind rest (k ∷ ks) = ((k ≡ kinds.Allowance) × Behind rest ks) ⊎ (((k ≡ kinds.LineNote) × Behind rest ks) ⊎ (((k ≡ kinds.Note) × Behind rest ks)
     ⊎ (((k ≡ kinds.Item) × Behind rest ks) ⊎ ((k ≡ kinds.LoopEnd) × rest ks))))
 
+-- a loop or none, and what stands behind it
 abbrev pub Body : Form → Kinds
 Body form ks = This kinds.LoopStart (This kinds.Item (Behind (Record form))) ks ⊎ Record form ks
 
@@ -50,6 +55,7 @@ abbrev pub References : Form → Kinds
 References forms.Base ks = Any kinds.Reference (Body forms.Base) ks
 References forms.Answer ks = This kinds.Reference (Body forms.Answer) ks ⊎ Body forms.Answer ks
 
+-- ST, the head, and what may follow it
 abbrev pub InOrder : Form → Kinds
 InOrder form = This kinds.Start (This kinds.Head (References form))
 
@@ -57,11 +63,11 @@ InOrder form = This kinds.Start (This kinds.Head (References form))
 abbrev pub MayFollow : Form → List Kind → Kind → Type 0
 MayFollow form ks k = (rest : List Kind) × InOrder form (ks ++ k ∷ rest)
 
--- the phase behind these
 abbrev pub from_phase : Option Phase → (Phase → Option Phase) → Option Phase
 from_phase None f = None
 from_phase (Some p) f = f p
 
+-- where a set stands behind segments of these kinds, from this phase on
 abbrev pub phase_behind : Form → Phase → List Kind → Option Phase
 phase_behind form p [] = Some p
 phase_behind form p (k ∷ ks) = from_phase (next_phase p k form) (λ q. phase_behind form q ks)

@@ -1,4 +1,4 @@
--- Why a set is refused at a segment: each reason is a sentence over this segment and what those before it say.
+-- Why a set is refused at a segment (this project's profile): each reason is a sentence over this segment and what those before it say.
 use Rattle.std.specs.Prelude.{◌≡◌, ℕ, ◌+◌, Bool, true, false, not, ◌==◌, nat_lt, nat_le, List, [], ◌∷◌, length, Option, Some, None, Result, Ok, Err, if◌then◌else◌}
 use Rattle.std.specs.List.{list_any}
 use Rattle.std.specs.Str.{bytes_eq}
@@ -7,7 +7,7 @@ use Rattle.dsd_values.specs.declared.line.Line.{Line}
 use Rattle.dsd_values.specs.declared.limits.TheConstants.{MOST_LINES, SET_BYTES}
 use Rattle.segments.specs.Views.{Seg, element_of}
 use Rattle.segments.specs.Elements.{ElementFault, ◌or_else◌}
-use Rattle.segments.specs.Tables.{item_fault, line_in, start_fault, loop_start_fault, label_in, totals_fault, signature_fault, integrity_fault, integrity_in, trailer_fault, found_in, again_in}
+use Rattle.segments.specs.Tables.{item_fault, line_in, start_fault, loop_start_fault, loop_id_in, totals_fault, signature_fault, integrity_fault, integrity_in, trailer_fault, stated_count_in, control_again_in}
 use Rattle.segments.specs.Elements.{at_element, no_more}
 use Rattle.segments.specs.Kinds.{next_phase}
 use Rattle.segments.specs.SoFar.{SoFar}
@@ -23,6 +23,7 @@ use Rattle.segments.specs.declared.kind.Kind.TheVariants as kinds
 use Rattle.segments.specs.declared.kind.Form.{Form}
 use Rattle.segments.specs.declared.phase.Phase.{Phase}
 
+-- the reason, where the test holds
 abbrev pub when : Bool → SetReason → Option SetReason
 when test reason = if test then Some reason else None
 
@@ -59,6 +60,7 @@ not_yet_reason kinds.Other seg = None
 abbrev pub length_reason : Seg → Option SetReason
 length_reason seg = when (nat_lt SET_BYTES (seg.start + length seg.bytes)) reasons.Limit
 
+-- it may stand there, is read today, and ends within the length of a set
 unfoldable pub admission : Form → Phase → Kind → Seg → Option SetReason
 admission form phase kind seg = order_reason (next_phase phase kind form) or_else not_yet_reason kind seg or_else length_reason seg
 
@@ -68,18 +70,20 @@ admission form phase kind seg = order_reason (next_phase phase kind form) or_els
 abbrev pub has_line : ℕ → List Line → Bool
 has_line dsd lines = list_any (λ line. line.dsd == dsd) lines
 
+-- one line too many, an element that is refused, or a number that stands already
 abbrev pub item_reason : List Line → Seg → Option SetReason
 item_reason lines seg =
     when (nat_le MOST_LINES (length lines)) reasons.Limit
     or_else as_value (item_fault seg)
     or_else when (has_line (line_in seg).dsd lines) (reasons.Twice (line_in seg).dsd)
 
--- LE repeats the label of LS
-abbrev pub label_fault : List ℕ → Seg → Option ElementFault
-label_fault label seg = if bytes_eq (label_in seg) label then None else Some (record { element = 1; fault = faults.OutOfRange })
+-- LE repeats the loop id of LS
+abbrev pub loop_id_fault : List ℕ → Seg → Option ElementFault
+loop_id_fault loop_id seg = if bytes_eq (loop_id_in seg) loop_id then None else Some (record { element = 1; fault = faults.OutOfRange })
 
+-- the elements of an LE
 abbrev pub loop_end_fault : List ℕ → Seg → Option ElementFault
-loop_end_fault label seg = at_element 1 (word_between 1 6 (element_of seg 1)) or_else label_fault label seg or_else no_more 1 seg
+loop_end_fault loop_id seg = at_element 1 (word_between 1 6 (element_of seg 1)) or_else loop_id_fault loop_id seg or_else no_more 1 seg
 
 -- the integrity value is the check of the segments before it
 abbrev pub integrity_reason : ℕ → Seg → Option SetReason
@@ -91,8 +95,8 @@ integrity_reason check seg =
 abbrev pub trailer_reason : List ℕ → ℕ → Seg → Option SetReason
 trailer_reason control found seg =
     as_value (trailer_fault seg)
-    or_else when (not (found_in seg == found)) (reasons.Count (found_in seg) found)
-    or_else when (not (bytes_eq (again_in seg) control)) reasons.Control
+    or_else when (not (stated_count_in seg == found)) (reasons.Count (stated_count_in seg) found)
+    or_else when (not (bytes_eq (control_again_in seg) control)) reasons.Control
 
 -- the reasons against a segment of this kind, in the order in which they are asked; those of a head, and of the
 -- totals against the lines, are each set's own
@@ -100,7 +104,7 @@ abbrev pub course_reason : SoFar → Seg → Kind → Option SetReason
 course_reason m seg kinds.Start = as_value (start_fault seg)
 course_reason m seg kinds.LoopStart = as_value (loop_start_fault seg)
 course_reason m seg kinds.Item = item_reason m.lines seg
-course_reason m seg kinds.LoopEnd = as_value (loop_end_fault m.label seg)
+course_reason m seg kinds.LoopEnd = as_value (loop_end_fault m.loop_id seg)
 course_reason m seg kinds.Totals = as_value (totals_fault seg)
 course_reason m seg kinds.Signature = as_value (signature_fault seg)
 course_reason m seg kinds.Integrity = integrity_reason m.check seg

@@ -6,6 +6,7 @@ use Rattle.segments.specs.declared.set_fault.SetReason.TheVariants as reasons
 use Rattle.segments.specs.declared.set_fault.SetFault.{SetFault}
 use Rattle.segments.specs.declared.set_fault.SetFault.TheVariants as errors
 
+-- where a text is refused, and why
 pub record Refusal : Type 0 where
   pub place : ℕ
   pub reason : SetReason

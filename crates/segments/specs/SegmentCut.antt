@@ -16,6 +16,7 @@ is_outside byte = not (is_inside byte)
 abbrev pub body_length : List ℕ → ℕ
 body_length rest = position_or_len is_outside rest
 
+-- so many bytes, where a segment may have them
 abbrev pub limited : ℕ → ℕ → Result ℕ SegmentFault
 limited start size = if nat_lt 512 size then Err (TooLong start) else Ok size
 
@@ -50,9 +51,11 @@ with_parts seg =
     if not (is_id (slice_index_or seg.parts 0 [])) then Err (BadId seg.start)
     else (if nat_lt 31 (length seg.parts) then Err (TooManyElements seg.start) else Ok seg)
 
+-- the segment of these bytes
 abbrev pub seg_at : ℕ → List ℕ → Seg
 seg_at start bytes = record { start = start; bytes = bytes; parts = parts_of bytes }
 
+-- the segment of the first bytes, where their number was found
 abbrev pub with_size : ℕ → List ℕ → Result ℕ SegmentFault → Result Seg SegmentFault
 with_size start rest (Err fault) = Err fault
 with_size start rest (Ok size) = with_parts (seg_at start (take size rest))
@@ -63,6 +66,7 @@ first_of start rest = with_size start rest (size_of start rest)
 
 -- ---- one call of `next`
 
+-- one segment, or the fault
 abbrev pub some_of : Result Seg SegmentFault → Result (Option Seg) SegmentFault
 some_of (Err fault) = Err fault
 some_of (Ok seg) = Ok (Some seg)
@@ -75,6 +79,7 @@ next_of left = if length left.rest == 0 then Ok None else some_of (first_of left
 abbrev pub behind : Left → ℕ → Left
 behind left size = record { rest = drop size left.rest; place = left.place + size }
 
+-- what is left behind this answer
 abbrev pub left_by : Left → Result (Option Seg) SegmentFault → Left
 left_by left (Ok (Some seg)) = behind left (length seg.bytes)
 left_by left (Ok None) = left
@@ -101,11 +106,12 @@ onward (Err fault) later = record { segments = []; fault = Some fault }
 onward (Ok None) later = record { segments = []; fault = None }
 onward (Ok (Some seg)) later = record { segments = seg ∷ later.segments; fault = later.fault }
 
+-- the cut of what is left, by so many calls of `next` at most
 unfoldable pub cut_in : ℕ → Left → Cut
 cut_in zero left = record { segments = []; fault = None }
 cut_in (suc calls) left = onward (next_of left) (cut_in calls (left_after left))
 
--- each segment takes a byte at least, so there are no more calls than bytes
+-- the cut of what is left: each segment takes a byte at least, so there are no more of them than bytes
 unfoldable pub cut_left : Left → Cut
 cut_left left = cut_in (length left.rest) left
 

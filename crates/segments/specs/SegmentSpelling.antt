@@ -22,6 +22,7 @@ is_element_character byte = is_inside byte && not (is_star byte)
 abbrev pub IsPart : List ℕ → Type 0
 IsPart part = AllPass is_element_character part
 
+-- A to Z, or a digit
 abbrev pub is_id_byte : ℕ → Bool
 is_id_byte byte = is_ascii_uppercase byte || is_ascii_digit byte
 

@@ -5,7 +5,7 @@ use Rattle.dsd_values.specs.declared.line.Line.{Line}
 use Rattle.dsd_values.specs.declared.signature.Signature.{Signature}
 use Rattle.segments.specs.Views.{Seg}
 use Rattle.segments.specs.Kinds.{next_phase}
-use Rattle.segments.specs.Tables.{line_in, control_in, label_in, totals_in, signature_in, integrity_in}
+use Rattle.segments.specs.Tables.{line_in, control_in, loop_id_in, totals_in, signature_in, integrity_in}
 use Rattle.segments.specs.declared.stated.StatedTotals.{StatedTotals}
 use Rattle.segments.specs.declared.kind.Kind.{Kind}
 use Rattle.segments.specs.declared.kind.Kind.TheVariants as kinds
@@ -18,12 +18,13 @@ pub record SoFar : Type 0 where
   pub count : ℕ
   pub check : ℕ
   pub control : List ℕ
-  pub label : List ℕ
+  pub loop_id : List ℕ
   pub lines : List Line
   pub totals : StatedTotals
   pub signature : Signature
   pub integrity : ℕ
 
+-- before any has come
 abbrev pub no_totals : StatedTotals
 no_totals = record { quantity = 0; amount = 0; deposit = None }
 
@@ -37,7 +38,7 @@ nothing = record {
   count = 0;
   check = 0;
   control = [];
-  label = [];
+  loop_id = [];
   lines = [];
   totals = no_totals;
   signature = no_signature;
@@ -50,9 +51,9 @@ abbrev pub control_after : Kind → List ℕ → List ℕ → List ℕ
 control_after kinds.Start new old = new
 control_after _ new old = old
 
-abbrev pub label_after : Kind → List ℕ → List ℕ → List ℕ
-label_after kinds.LoopStart new old = new
-label_after _ new old = old
+abbrev pub loop_id_after : Kind → List ℕ → List ℕ → List ℕ
+loop_id_after kinds.LoopStart new old = new
+loop_id_after _ new old = old
 
 abbrev pub lines_after : Kind → Line → List Line → List Line
 lines_after kinds.Item new old = old ++ new ∷ []
@@ -77,7 +78,7 @@ kept m seg kind phase count check = record {
   count = count;
   check = check;
   control = control_after kind (control_in seg) m.control;
-  label = label_after kind (label_in seg) m.label;
+  loop_id = loop_id_after kind (loop_id_in seg) m.loop_id;
   lines = lines_after kind (line_in seg) m.lines;
   totals = totals_after kind (totals_in seg) m.totals;
   signature = signature_after kind (signature_in seg) m.signature;
@@ -91,13 +92,14 @@ moved m phase count check = record {
   count = count;
   check = check;
   control = m.control;
-  label = m.label;
+  loop_id = m.loop_id;
   lines = m.lines;
   totals = m.totals;
   signature = m.signature;
   integrity = m.integrity;
 }
 
+-- where no phase follows, the segment is refused, and this one is asked of nothing
 abbrev pub phase_in : Option Phase → Phase
 phase_in (Some phase) = phase
 phase_in None = phases.Start

@@ -1,5 +1,6 @@
 -- The element tables of the segments that both sets have: which elements are refused, and what right ones say.
--- Places, kinds and widths of elements are this project's profile.
+-- Of each segment: the first element that is refused, and what it says where none is. Places, kinds and widths of elements
+-- are this project's profile.
 use Rattle.std.specs.Prelude.{ℕ, List, [], Option, Some, None}
 use Rattle.dsd_values.specs.Reading.{plain_number_of, dsd_of, quantity_of, total_quantity_of, cents_of, cost_of, check_of, word_of, filled_word_of, word_between}
 use Rattle.dsd_values.specs.declared.line.Line.{Line}
@@ -53,8 +54,8 @@ control_in seg = said [] (word_between 4 9 (element_of seg 2))
 abbrev pub loop_start_fault : Seg → Option ElementFault
 loop_start_fault seg = at_element 1 (word_between 1 6 (element_of seg 1)) or_else no_more 1 seg
 
-abbrev pub label_in : Seg → List ℕ
-label_in seg = said [] (word_between 1 6 (element_of seg 1))
+abbrev pub loop_id_in : Seg → List ℕ
+loop_id_in seg = said [] (word_between 1 6 (element_of seg 1))
 
 -- ---- G84, the totals
 
@@ -99,8 +100,8 @@ trailer_fault seg =
     or_else at_element 2 (filled_word_of (element_of seg 2))
     or_else no_more 2 seg
 
-abbrev pub found_in : Seg → ℕ
-found_in seg = said 0 (plain_number_of (element_of seg 1))
+abbrev pub stated_count_in : Seg → ℕ
+stated_count_in seg = said 0 (plain_number_of (element_of seg 1))
 
-abbrev pub again_in : Seg → List ℕ
-again_in seg = said [] (filled_word_of (element_of seg 2))
+abbrev pub control_again_in : Seg → List ℕ
+control_again_in seg = said [] (filled_word_of (element_of seg 2))

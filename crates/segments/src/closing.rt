@@ -2,7 +2,7 @@
 
 ghost use Rattle.std.specs.Prelude.{◌≡◌};
 ghost use Rattle.segments.specs.Elements.{Reads};
-ghost use Rattle.segments.specs.Tables.{start_fault, control_in, loop_start_fault, label_in, totals_fault, totals_in, signature_fault, signature_in, integrity_fault, integrity_in, trailer_fault, found_in, again_in};
+ghost use Rattle.segments.specs.Tables.{start_fault, control_in, loop_start_fault, loop_id_in, totals_fault, totals_in, signature_fault, signature_in, integrity_fault, integrity_in, trailer_fault, stated_count_in, control_again_in};
 
 use crate::elements::{cents_at, check_at, end_of_elements, filled_word_at, number_at, optional_cents_at, total_quantity_at, word_at, word_between_at};
 use crate::item_fault::ItemFault;
@@ -19,13 +19,13 @@ pub fn read_start(segment: &Segment<'_>) -> Result<Word, ItemFault>
     Ok(control)
 }
 
-/// The label of an LS.
+/// The id of the loop that an LS begins.
 pub fn read_loop_start(segment: &Segment<'_>) -> Result<Word, ItemFault>
-    ensures { Reads result (loop_start_fault segment.now) (λ label. label ≡ label_in segment.now) }
+    ensures { Reads result (loop_start_fault segment.now) (λ loop_id. loop_id ≡ loop_id_in segment.now) }
 {
-    let label = word_between_at(segment, 1, 1, 6)?;
+    let loop_id = word_between_at(segment, 1, 1, 6)?;
     end_of_elements(segment, 1)?;
-    Ok(label)
+    Ok(loop_id)
 }
 
 /// What a G84 states.
@@ -64,7 +64,7 @@ pub fn read_integrity(segment: &Segment<'_>) -> Result<Check, ItemFault>
 
 /// The number of segments and the control number that an SE states.
 pub fn read_trailer(segment: &Segment<'_>) -> Result<(u64, Word), ItemFault>
-    ensures { Reads result (trailer_fault segment.now) (λ stated. (stated.0 ≡ found_in segment.now) × (stated.1 ≡ again_in segment.now)) }
+    ensures { Reads result (trailer_fault segment.now) (λ stated. (stated.0 ≡ stated_count_in segment.now) × (stated.1 ≡ control_again_in segment.now)) }
 {
     let count = number_at(segment, 1)?;
     let control = filled_word_at(segment, 2)?;

@@ -18,7 +18,7 @@ use crate::kind::{Form, Kind};
 use crate::numbered_lines::NumberedLines;
 use crate::phase::Phase;
 use crate::segment::Segment;
-use crate::refusing::{at, built, refused};
+use crate::refusing::{at, built, refuse};
 use crate::set_fault::{SetFault, SetReason};
 use crate::stated::{Closed, StatedTotals};
 use block_check::Running;
@@ -34,7 +34,7 @@ pub struct Course {
     count: usize,
     check: Running,
     control: Word,
-    label: Word,
+    loop_id: Word,
     lines: NumberedLines,
     totals: StatedTotals,
     signature: Signature,
@@ -46,7 +46,7 @@ impl Model for Course {
 
     ghost Value = { SoFar };
 
-    ghost view = { λ c. record { phase = c.phase; count = c.count; check = c.check; control = c.control; label = c.label; lines = c.lines; totals = c.totals; signature = c.signature; integrity = c.integrity } };
+    ghost view = { λ c. record { phase = c.phase; count = c.count; check = c.check; control = c.control; loop_id = c.loop_id; lines = c.lines; totals = c.totals; signature = c.signature; integrity = c.integrity } };
 }
 
 impl Course {
@@ -60,7 +60,7 @@ impl Course {
             count: 0,
             check: Running::new(),
             control: Word::empty(),
-            label: Word::empty(),
+            loop_id: Word::empty(),
             lines: NumberedLines::new(alloc)?,
             totals: StatedTotals {
                 quantity: 0,
@@ -82,11 +82,11 @@ impl Course {
         ensures short { OnOk result (segment.now.start + length segment.now.bytes ≤ SET_BYTES) }
     {
         let Some(phase) = self.phase.after(kind, form) else {
-            return refused(segment, SetReason::Order);
+            return refuse(segment, SetReason::Order);
         };
         built(kind, segment)?;
         if segment.end() > SET_BYTES {
-            return refused(segment, SetReason::Limit);
+            return refuse(segment, SetReason::Limit);
         }
         Ok(phase)
     }
@@ -100,12 +100,12 @@ impl Course {
     {
         match kind {
             Kind::Start => self.control = at(segment, read_start(segment))?,
-            Kind::LoopStart => self.label = at(segment, read_loop_start(segment))?,
+            Kind::LoopStart => self.loop_id = at(segment, read_loop_start(segment))?,
             Kind::Item => {
                 let line = item(self.alloc, segment, &self.lines)?;
                 self.lines.push(line)?;
             }
-            Kind::LoopEnd => at(segment, loop_end(segment, &self.label))?,
+            Kind::LoopEnd => at(segment, loop_end(segment, &self.loop_id))?,
             Kind::Totals => self.totals = at(segment, read_totals(segment))?,
             Kind::Signature => self.signature = at(segment, read_signature(segment))?,
             Kind::Integrity => self.integrity = integrity(segment, self.check.value())?,
@@ -172,20 +172,20 @@ fn item(alloc: Global, segment: &Segment<'_>, lines: &NumberedLines) -> Result<L
     ensures room { OnOk result (length lines.now < MOST_LINES) }
 {
     if lines.len() >= MOST_LINES {
-        return refused(segment, SetReason::Limit);
+        return refuse(segment, SetReason::Limit);
     }
     let line = at(segment, read_item(alloc, segment))?;
     if lines.has(line.dsd) {
-        return refused(segment, SetReason::Twice(line.dsd));
+        return refuse(segment, SetReason::Twice(line.dsd));
     }
     Ok(line)
 }
 
-fn loop_end(segment: &Segment<'_>, label: &Word) -> Result<(), ItemFault>
-    ensures { Reads result (loop_end_fault label.now segment.now) (λ _. Unit {0}) }
+fn loop_end(segment: &Segment<'_>, loop_id: &Word) -> Result<(), ItemFault>
+    ensures { Reads result (loop_end_fault loop_id.now segment.now) (λ _. Unit {0}) }
 {
     let again = word_between_at(segment, 1, 1, 6)?;
-    if again.as_slice() != label.as_slice() {
+    if again.as_slice() != loop_id.as_slice() {
         return Err(ItemFault::Value {
             element: 1,
             fault: ValueFault::OutOfRange,
@@ -199,7 +199,7 @@ fn integrity(segment: &Segment<'_>, computed: u16) -> Result<Check, SetFault>
 {
     let said = at(segment, read_integrity(segment))?;
     if said.get() != computed {
-        return refused(
+        return refuse(
             segment,
             SetReason::Check {
                 said,
@@ -216,10 +216,10 @@ fn trailer(segment: &Segment<'_>, control: &Word, found: usize) -> Result<(), Se
     let (said, again) = at(segment, read_trailer(segment))?;
     let found = found as u64;
     if said != found {
-        return refused(segment, SetReason::Count { said, found });
+        return refuse(segment, SetReason::Count { said, found });
     }
     if again.as_slice() != control.as_slice() {
-        return refused(segment, SetReason::Control);
+        return refuse(segment, SetReason::Control);
     }
     Ok(())
 }

@@ -11,7 +11,7 @@ use crate::set_fault::{SetFault, SetReason};
 use dsd_values::read_word;
 
 /// A refusal at this segment.
-pub fn refused<T>(segment: &Segment<'_>, reason: SetReason) -> Result<T, SetFault>
+pub fn refuse<T>(segment: &Segment<'_>, reason: SetReason) -> Result<T, SetFault>
     ensures { result ≡ Err (SetFault.Refused segment.now.start reason) }
 {
     Err(SetFault::Refused {
@@ -27,7 +27,7 @@ pub fn at<T>(segment: &Segment<'_>, answer: Result<T, ItemFault>) -> Result<T, S
     match answer {
         Ok(value) => Ok(value),
         Err(ItemFault::Value { element, fault }) => {
-            refused(segment, SetReason::Value { element, fault })
+            refuse(segment, SetReason::Value { element, fault })
         }
         Err(ItemFault::Memory) => Err(SetFault::Memory),
     }
@@ -48,7 +48,7 @@ pub fn not_yet<T>(segment: &Segment<'_>) -> Result<T, SetFault>
     ensures { result ≡ Err (SetFault.Refused segment.now.start (SetReason.NotYet (element_of segment.now 0))) }
 {
     match read_word(segment.id()) {
-        Ok(id) => refused(segment, SetReason::NotYet(id)),
+        Ok(id) => refuse(segment, SetReason::NotYet(id)),
         Err(_) => unreachable!(),
     }
 }

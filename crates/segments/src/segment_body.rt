@@ -1,7 +1,8 @@
-ghost use Rattle.std.specs.Prelude.{◌≡◌, ◌+◌, ◌<◌, ◌≤◌, [], ◌∷◌, ◌++◌, length, take};
+ghost use Rattle.std.specs.Prelude.{◌≡◌, ◌+◌, ◌<◌, ◌≤◌, ◌↔◌, [], ◌∷◌, ◌++◌, IsTrue, length, take};
 ghost use Rattle.arrayvec.specs.ArrayVec.{array_vec_len};
 ghost use Rattle.segments.specs.PartEnds.{ends_from};
 ghost use Rattle.segments.specs.SegmentCut.{body_length, parts_of};
+ghost use Rattle.segments.specs.SegmentSpelling.{is_inside as is_inside_byte};
 
 use arrayvec::ArrayVec;
 
@@ -24,10 +25,13 @@ pub fn body_at(front: &[u8]) -> Body
 {
     let mut ends = ArrayVec::new();
     for (place, &byte) in front.iter().enumerate() {
-        match byte {
-            b'*' => push_end(&mut ends, place),
-            b' '..=b'~' => {}
-            _ => return ended(ends, place),
+        if is_behind_star(byte) {
+            continue;
+        }
+        if byte == b'*' {
+            push_end(&mut ends, place);
+        } else if !is_inside(byte) {
+            return ended(ends, place);
         }
     }
     ended(ends, front.len())
@@ -45,13 +49,27 @@ fn ended(mut ends: PartEnds, place: usize) -> Body
     }
 }
 
-#[tactic(auto, using(crate::proofs::Scan::taken_all, crate::proofs::Scan::taken_full))]
 /// Notes one more end, where there is room.
+#[tactic(auto, using(crate::proofs::Scan::taken_all, crate::proofs::Scan::taken_full))]
 fn push_end(ends: &mut PartEnds, place: usize)
     requires { place ≤ 513 }
     ensures { ends.new.items ≡ take 32 (ends.old.items ++ place ∷ []) }
 {
-    if !ends.is_full() {
+    if ends.len() < ends.capacity() {
         ends.push(place as u16);
     }
+}
+
+/// Whether it is an element character that stands behind `*` in ASCII, as nearly all bytes of a segment do.
+fn is_behind_star(byte: u8) -> bool
+    ensures { IsTrue result ↔ ((42 < byte) × (byte ≤ 0x7E)) }
+{
+    (b'+'..=b'~').contains(&byte)
+}
+
+/// Whether it may stand before a terminator.
+fn is_inside(byte: u8) -> bool
+    ensures { result ≡ is_inside_byte byte }
+{
+    (b' '..=b'~').contains(&byte)
 }

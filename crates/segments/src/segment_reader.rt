@@ -1,7 +1,9 @@
 ghost use Rattle.std.specs.Prelude.{[], IfOk, IfSome, OnErr, drop, length, take, ◌+◌, ◌<◌, ◌^◌, ◌↔◌, ◌≡◌, ◌≤◌, ◌++◌};
 ghost use Rattle.segments.specs.SegmentCut.{after_body, body_length, first_of, left_after, limited as within_limit, next_of, size_of, text_start};
 ghost use Rattle.segments.specs.SegmentSpelling.{IsFront};
+ghost use Rattle.segments.specs.SegmentRefusal.{IsFault};
 ghost use Rattle.segments.specs.Views.{Left, Seg};
+ghost use Rattle.segments.specs.declared.segment_fault.SegmentFault.{SegmentFault};
 
 use crate::segment::{SEGMENT_BYTES, Segment};
 use crate::segment_body::body_at;
@@ -46,6 +48,8 @@ impl<'a> SegmentReader<'a> {
         ensures spelled { IfOk result (λ some. IfSome some (λ seg. IsFront seg self.old self.new)) }
         ensures front { (seg : Seg) (behind : Left) → IsFront seg self.old behind → (result ≡ Ok (Some seg)) × (self.new ≡ behind) }
 
+        // Each fault is answered exactly where it stands at the front, and none exactly at the end.
+        ensures refused { (fault : SegmentFault) → (result ≡ Err fault) ↔ IsFault self.old fault }
         ensures end { (result ≡ Ok None) ↔ (self.old.rest ≡ []) }
         ensures stays { OnErr result (self.new ≡ self.old) }
     {

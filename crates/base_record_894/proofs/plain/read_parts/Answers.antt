@@ -4,7 +4,8 @@ use Rattle.segments.specs.Views.{Seg, Left}
 use Rattle.segments.specs.SegmentCut.{cut_left, cut_of, next_of, left_after, Cut}
 use Rattle.segments.specs.SegmentSpelling.{IsFront}
 use Rattle.base_record_894.specs.Said.{Said, nothing, after}
-use Rattle.base_record_894.specs.FirstRefusal.{said_by, IsReadFrom, refusal_of}
+use Rattle.base_record_894.specs.FirstRefusal.{refusal_of}
+use Rattle.base_record_894.specs.ReadParts.{said_by, IsReadFrom}
 use Rattle.base_record_894.proofs.Reading.{refusal_in, said_in, same_err, segment_ok, fault_answers, step_answers, end_answers, none_left, step_on, said_on, bytes_some, counted}
 use Rattle.base_record_894.proofs.plain.read_parts.Goals as goal
 

@@ -1,5 +1,6 @@
 use Rattle.std.proofs.Common.{sym, ◌∙◌}
 use Rattle.segments.proofs.Complete.{front_is}
+use Rattle.segments.proofs.Refused.{fault_of-next, next_of-fault}
 use Rattle.segments.proofs.Spelled.{answer_front, answer_stays, end_of-next, next_of-end}
 use Rattle.segments.proofs.segment_reader.SegmentReader.next.Goals as goal
 
@@ -10,6 +11,10 @@ pub returns-clause-front : goal.returns-clause-front
 returns-clause-front c = λ seg behind front.
     let read = front_is c.args.self.now behind seg front in
     (c.advance.ensures.answer ∙ read.0, c.advance.ensures.left ∙ read.1)
+
+pub returns-clause-refused : goal.returns-clause-refused
+returns-clause-refused c = λ fault.
+    (λ refused. fault_of-next c.args.self.now fault (sym c.advance.ensures.answer ∙ refused), λ there. c.advance.ensures.answer ∙ next_of-fault c.args.self.now fault there)
 
 pub returns-clause-end : goal.returns-clause-end
 returns-clause-end c =
