@@ -5,7 +5,9 @@ use Rattle.std.specs.List.{concat, flat_map, onto_first}
 use Rattle.std.proofs.lemmas.Bool.Decides.{nat_tests}
 use Rattle.std.proofs.lemmas.List.Folds.{concat-append}
 use Rattle.dex_line.specs.TextUnits.{lines_of, paired, units_of, is_trailer, is_set_end, EachFits, UnitsFit}
-use Rattle.dex_line.specs.BlockCut.{EachGroupFits, IsFull, IsGreedy, MarksLast, CutOf, placed, groups_of, marked, blocks_of}
+use Rattle.dex_line.specs.BlockCut.{EachGroupFits, IsFull, IsGreedy, MarksLast, CutOf, placed, groups_of, marked, blocks_of, IsFirstBlock, Marks}
+use Rattle.dex_line.proofs.UnitCuts.{no_units, fit_after}
+use Rattle.dex_line.proofs.Fewest.{one_cut, cut_more}
 use Rattle.dex_line.specs.declared.cutter.TheConstants.{BLOCK_WRITTEN}
 
 abbrev EachSome : List (List ℕ) → Type 0
@@ -106,3 +108,14 @@ blocks_cut text fit =
       bytes = marked_bytes (map concat (groups_of (units_of text)));
       marks = marks_last (map concat (groups_of (units_of text)));
     }
+
+-- ---- one call
+
+pub blocks_empty : (text : List ℕ) → text ≡ [] → blocks_of text ≡ []
+blocks_empty text none = ap blocks_of none ∙ ap (λ units. marked (map concat (groups_of units))) no_units
+
+-- the first block, and the blocks of what is left
+pub blocks_step : (text block after : List ℕ) (last : Bool) → UnitsFit text → IsFirstBlock text block after → Marks last after → blocks_of text ≡ (block, last) ∷ blocks_of after
+blocks_step text block after last fit f m =
+    one_cut text (blocks_of text) ((block, last) ∷ blocks_of after) (blocks_cut text fit)
+    (cut_more text block after last (blocks_of after) f m (blocks_cut after (fit_after text block after fit f)))

@@ -1,5 +1,5 @@
 -- The blocks of a text: there is one such list, and no cut has fewer.
-use Rattle.std.proofs.Common.{◌≡◌, ◌⊎◌, ℕ, ◌+◌, ◌≤◌, Bool, true, false, List, [], ◌∷◌, ◌++◌, length, map, refl, sym, ◌∙◌, ap, subst, inl, inr, arith, append_assoc, append-nil, length-append}
+use Rattle.std.proofs.Common.{◌≡◌, ◌⊎◌, ℕ, ◌+◌, ◌<◌, ◌≤◌, Bool, true, false, List, [], ◌∷◌, ◌++◌, length, map, refl, sym, ◌∙◌, ap, subst, inl, inr, arith, append_assoc, append-nil, length-append}
 use Rattle.std.specs.List.{concat, flat_map}
 use Rattle.std.proofs.lemmas.List.Folds.{concat-append}
 use Rattle.std.proofs.lemmas.List.{length-map}
@@ -111,32 +111,33 @@ one_cut text a b x y =
 
 -- ---- what the calls give
 
-empty_text : (text : List ℕ) → units_of text ≡ [] → text ≡ []
-empty_text text e = sym (join_units text) ∙ ap concat e
+-- the blocks joined are the text
+flat_join : (gs : List (List (List ℕ))) → concat (map concat gs) ≡ concat (flat gs)
+flat_join [] = refl
+flat_join (g ∷ gs) = ap (λ x. concat g ++ x) (flat_join gs) ∙ sym (concat-append g (flat gs))
 
-none_of : (l : List (List ℕ)) → length l ≡ 0 → l ≡ []
-none_of [] h = refl
-none_of (x ∷ l) h = absurd (omega arith)
+pub blocks_joined : (text : List ℕ) (blocks : List (List ℕ × Bool)) → CutOf text blocks → concat (map (λ (b : List ℕ × Bool). b.0) blocks) ≡ text
+blocks_joined text blocks c = ap concat c.bytes ∙ flat_join c.groups ∙ ap concat c.cut.whole ∙ join_units text
 
-none_first : (text block after : List ℕ) → text ≡ [] → IsFirstBlock text block after → ⊥
-none_first text block after e f =
-    let u : [] ≡ f.units ++ units_of after = sym (ap units_of e ∙ no_units) ∙ f.cut in
-    let n = ap length u in
-    let some = f.some in
-    let k : f.units ≡ [] = none_of f.units (omega (arith, length-append f.units (units_of after))) in
-    let l : [] ≡ block = sym (ap concat k) ∙ f.front in
-    let m = ap length l in
-    omega arith
+-- each block has some byte
+some_group : (block : List ℕ) (more : List (List ℕ)) (gs : List (List (List ℕ))) → IsGreedy gs → block ∷ more ≡ map concat gs → 0 < length block
+some_group block more [] greedy e = absurd (cc)
+some_group block more (g ∷ gs) greedy e = let same : block ≡ concat g = cc in let some = greedy.0 in let l = ap length same in omega arith
 
-marks_here : (text block after : List ℕ) (last : Bool) (more : List (List ℕ × Bool)) → Marks last after → CutRun after more [] → MarksLast more → MarksLast ((block, last) ∷ more)
-marks_here text block after last [] m run on = m.1 run
-marks_here text block after true (b ∷ more) m (next, f, w, rest) on = absurd (none_first after b.0 next (m.0 refl) f)
-marks_here text block after false (b ∷ more) m run on = (refl, on)
+none_cut : (block : List ℕ × Bool) (more : List (List ℕ × Bool)) → CutOf [] (block ∷ more) → ⊥
+none_cut block more c =
+    let some = some_group block.0 (map (λ (b : List ℕ × Bool). b.0) more) c.groups c.greedy c.bytes in
+    let l = ap length (blocks_joined [] (block ∷ more) c) in
+    omega (arith, length-append block.0 (concat (map (λ (b : List ℕ × Bool). b.0) more)))
 
-pub run_cut : (text : List ℕ) (blocks : List (List ℕ × Bool)) → CutRun text blocks [] → CutOf text blocks
-run_cut text [] run = record { groups = []; cut = record { whole = sym (ap units_of run ∙ no_units); fits = tt }; greedy = tt; bytes = refl; marks = tt }
-run_cut text ((block, last) ∷ more) (after, f, m, run) =
-    let c = run_cut after more run in
+marks_here : (block after : List ℕ) (last : Bool) (more : List (List ℕ × Bool)) → Marks last after → CutOf after more → MarksLast ((block, last) ∷ more)
+marks_here block after last [] m c = m.1 (sym (blocks_joined after [] c))
+marks_here block after true (b ∷ more) m c = absurd (none_cut b more (subst (λ l. CutOf l (b ∷ more)) (m.0 refl) c))
+marks_here block after false (b ∷ more) m c = (refl, c.marks)
+
+-- a first block, and the blocks of what is left
+pub cut_more : (text block after : List ℕ) (last : Bool) (more : List (List ℕ × Bool)) → IsFirstBlock text block after → Marks last after → CutOf after more → CutOf text ((block, last) ∷ more)
+cut_more text block after last more f m c =
     let some = f.some in
     let fits = f.fits in
     let l : size f.units ≡ length block = ap length f.front in
@@ -146,16 +147,16 @@ run_cut text ((block, last) ∷ more) (after, f, m, run) =
       cut = record { whole = ap (λ x. f.units ++ x) w ∙ sym f.cut; fits = (omega arith, c.cut.fits) };
       greedy = (omega arith, subst (λ x. IsFull BLOCK_WRITTEN (size f.units) x) (sym w) (subst (λ n. IsFull BLOCK_WRITTEN n (units_of after)) (sym l) f.full), c.greedy);
       bytes = ap (λ x. x ∷ map (λ (b : List ℕ × Bool). b.0) more) (sym f.front) ∙ ap (λ x. concat f.units ∷ x) c.bytes;
-      marks = marks_here text block after last more m run c.marks;
+      marks = marks_here block after last more m c;
     }
 
--- the blocks joined are the text
-flat_join : (gs : List (List (List ℕ))) → concat (map concat gs) ≡ concat (flat gs)
-flat_join [] = refl
-flat_join (g ∷ gs) = ap (λ x. concat g ++ x) (flat_join gs) ∙ sym (concat-append g (flat gs))
+pub cut_empty : (text : List ℕ) → text ≡ [] → CutOf text []
+cut_empty text none = record { groups = []; cut = record { whole = sym (ap units_of none ∙ no_units); fits = tt }; greedy = tt; bytes = refl; marks = tt }
 
-pub blocks_joined : (text : List ℕ) (blocks : List (List ℕ × Bool)) → CutOf text blocks → concat (map (λ (b : List ℕ × Bool). b.0) blocks) ≡ text
-blocks_joined text blocks c = ap concat c.bytes ∙ flat_join c.groups ∙ ap concat c.cut.whole ∙ join_units text
+-- calls up to the end give the blocks
+pub run_cut : (text : List ℕ) (blocks : List (List ℕ × Bool)) → CutRun text blocks [] → CutOf text blocks
+run_cut text [] run = cut_empty text run
+run_cut text ((block, last) ∷ more) (after, f, m, run) = cut_more text block after last more f m (run_cut after more run)
 
 -- one call more
 pub run_more : (text : List ℕ) (blocks : List (List ℕ × Bool)) (rest block after : List ℕ) (last : Bool) → CutRun text blocks rest → IsFirstBlock rest block after → Marks last after → CutRun text (blocks ++ (block, last) ∷ []) after
