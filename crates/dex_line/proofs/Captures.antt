@@ -1,12 +1,12 @@
 -- The frames of captured bytes: there is one such list, and it is what a scanner answers.
-use Rattle.std.proofs.Common.{◌≡◌, ◌⊎◌, ℕ, ◌+◌, ◌<◌, ◌≤◌, Bool, true, false, Some, None, Option, List, [], ◌∷◌, ◌++◌, length, take, drop, get_or, refl, sym, ◌∙◌, ap, subst, inl, inr, arith, append_assoc, append-nil, length-append}
+use Rattle.std.proofs.Common.{◌≡◌, ◌⊎◌, ℕ, ◌+◌, ◌≤◌, Bool, true, false, Some, None, Option, List, [], ◌∷◌, ◌++◌, length, take, drop, refl, sym, ◌∙◌, ap, subst, inl, inr, arith, append_assoc, append-nil}
 use Rattle.std.specs.Prelude.{◌≢◌, if◌then◌else◌}
 use Rattle.std.proofs.lemmas.List.{take_all, take-append-drop, length-take-le}
 use Rattle.dex_line.specs.FrameShapes.{FrameShape, Enq, Ack0, Ack1, Nak, Eot, Header, Block, Damaged, Bad}
 use Rattle.dex_line.specs.FrameSpelling.{IsBegun, IsNoFrame, Answers, Spelled, spelling}
 use Rattle.dex_line.specs.Hearing.{IsAnswered, HeardAs, Hearing, hear_all, hearing, nothing_heard}
 use Rattle.dex_line.specs.Scanning.{quieted}
-use Rattle.dex_line.specs.Captured.{BeginsWith, BeginsNone, IsFirstFrame, FramesIn, is_refused, left_behind, with_places, and_quiet, answers_to, frames_from, IsFrameOfSize}
+use Rattle.dex_line.specs.Captured.{BeginsWith, BeginsNone, IsFirstFrame, FramesIn, is_refused, left_behind, with_places, and_quiet, frames_from, IsFrameOfSize}
 use Rattle.dex_line.proofs.Told.{one_frame, no_front, judged_whole}
 use Rattle.dex_line.proofs.Heard.{heard_frames}
 use Rattle.dex_line.proofs.Pieces.{split_bytes, same_rest, same_place}
@@ -37,12 +37,14 @@ answered_none front last after (next, b, more, s) none shape rest (piece, t, e) 
       | inr (u, r, p, q) ↦ let same : last ≡ u = cc in reaches front last u r shape none same (subst (λ l. Spelled shape l) p t)
     ]
 
+-- a list with an element is not empty
 never_empty : (front : List ℕ) (last : ℕ) (after : List ℕ) → front ++ last ∷ after ≡ [] → ⊥
 never_empty [] last after e = cc
 never_empty (x ∷ front) last after e = cc
 
 -- ---- the first frame
 
+-- what has begun at the end of the bytes is bad
 pub first_open : (bytes : List ℕ) → IsBegun bytes → bytes ≢ [] → IsFirstFrame Bad bytes []
 first_open bytes s some = (begun_none bytes s, some, refl)
 
@@ -74,6 +76,7 @@ seen (Block last text) bytes left f = inr (left, f, refl)
 seen Damaged bytes left f = inr (f.0.0, f.0.1, f.1)
 seen Bad bytes left f = inl (refl, f.0, f.1, f.2)
 
+-- no frame is spelled by no bytes
 no_bytes : (shape : FrameShape) (bytes : List ℕ) → bytes ≡ [] → Spelled shape bytes → ⊥
 no_bytes shape bytes none s = let e = judged_whole shape [] (subst (λ l. Spelled shape l) none s) in cc
 
@@ -81,6 +84,7 @@ front_empty : (piece after : List ℕ) → piece ++ after ≡ [] → piece ≡ [
 front_empty [] after e = refl
 front_empty (x ∷ piece) after e = absurd (cc)
 
+-- no frame is first where there are no bytes
 first_some : (shape : FrameShape) (bytes left : List ℕ) → IsFirstFrame shape bytes left → bytes ≡ [] → ⊥
 first_some shape bytes left f none =
     elim (seen shape bytes left f) [
@@ -120,6 +124,7 @@ frames_one ((p, a) ∷ xs) ((q, b) ∷ ys) place bytes (at, v, first, more) (at'
     let places : p ≡ q = at ∙ sym at' in
     cc
 
+-- a silence comes behind all answers
 and_quiet-cons : (shape : FrameShape) (shapes : List FrameShape) (answer : Option FrameShape) → and_quiet (shape ∷ shapes) answer ≡ shape ∷ and_quiet shapes answer
 and_quiet-cons shape shapes None = refl
 and_quiet-cons shape shapes (Some last) = refl
@@ -140,13 +145,16 @@ frames_heard (shape ∷ shapes) place bytes rest (piece, after, a, same, h) =
     subst (λ l. FramesIn place bytes (with_places place l)) (sym (and_quiet-cons shape shapes (quieted rest)))
     (frames_on (is_refused shape) shape place bytes after (with_places (place + length (spelling shape)) (and_quiet shapes (quieted rest))) first on)
 
+-- the frames of a scanner are those of the definition
 pub frames_are : (place : ℕ) (bytes : List ℕ) → FramesIn place bytes (frames_from place bytes)
 unfolding frames_from
 frames_are place bytes = frames_heard (hear_all nothing_heard bytes).shapes place bytes (hear_all nothing_heard bytes).begun (heard_frames bytes)
 
+-- and no other list is
 pub frames_only : (place : ℕ) (bytes : List ℕ) (frames : List (ℕ × FrameShape)) → FramesIn place bytes frames → frames ≡ frames_from place bytes
 frames_only place bytes frames f = frames_one frames (frames_from place bytes) place bytes f (frames_are place bytes)
 
+-- no bytes, no frames
 pub frames_end : (place : ℕ) → frames_from place [] ≡ []
 unfolding frames_from
 frames_end place = refl
@@ -156,6 +164,7 @@ frames_none place bytes none = ap (frames_from place) none ∙ frames_end place
 
 -- ---- one step
 
+-- the first frame, and those of what is then to be read
 frames_step : (place : ℕ) (bytes : List ℕ) (shape : FrameShape) (left : List ℕ) → IsFirstFrame shape bytes left → frames_from place bytes ≡ (place, shape) ∷ frames_from (place + length (spelling shape)) left
 frames_step place bytes shape left first = sym (frames_only place bytes ((place, shape) ∷ frames_from (place + length (spelling shape)) left) (refl, left, first, frames_are (place + length (spelling shape)) left))
 
@@ -164,6 +173,7 @@ same_after : (refused : Bool) (p q : ℕ) (after : List ℕ) → (refused ≡ fa
 same_after true p q after same = frames_end p ∙ sym (frames_end q)
 same_after false p q after same = ap (λ n. frames_from n after) (same refl)
 
+-- the same by the number of bytes that the frame took
 pub frames_next : (place size : ℕ) (bytes : List ℕ) (shape : FrameShape) → IsFrameOfSize shape bytes size → frames_from place bytes ≡ (place, shape) ∷ frames_from (place + size) (left_behind shape (drop size bytes))
 frames_next place size bytes shape f =
     let after : List ℕ = drop size bytes in
@@ -208,6 +218,7 @@ begun_all bytes begun size all heard =
     let whole : take size bytes ≡ bytes = take_all size bytes (omega arith) in
     (sym whole ∙ pieces.0, pieces.1)
 
+-- the answer to a silence
 is_bad : (begun : List ℕ) (shape : FrameShape) → Some shape ≡ quieted begun → (shape ≡ Bad) × (begun ≢ [])
 is_bad [] shape e = absurd (cc)
 is_bad (b ∷ begun) shape e = (cc, λ none. cc)
@@ -228,5 +239,6 @@ nothing_left : (begun : List ℕ) → None ≡ quieted begun → begun ≡ []
 nothing_left [] quiet = refl
 nothing_left (b ∷ begun) quiet = absurd (cc)
 
+-- bytes that had no answer, nor the silence behind them, are none
 pub none_heard : (bytes begun : List ℕ) (size : ℕ) → size ≡ length bytes → hear_all nothing_heard (take size bytes) ≡ hearing begun [] → None ≡ quieted begun → bytes ≡ []
 none_heard bytes begun size all heard quiet = (begun_all bytes begun size all heard).0 ∙ nothing_left begun quiet

@@ -8,12 +8,15 @@ use Rattle.dex_line.specs.BlockCut.{EachGroupFits, IsFull, IsCutInto, IsGreedy, 
 use Rattle.dex_line.specs.declared.cutter.TheConstants.{BLOCK_WRITTEN}
 use Rattle.dex_line.proofs.UnitCuts.{no_units, join_units}
 
+-- how many bytes the units have
 abbrev size : List (List ℕ) → ℕ
 size g = length (concat g)
 
+-- the units of all groups
 abbrev flat : List (List (List ℕ)) → List (List ℕ)
 flat gs = flat_map (λ g. g) gs
 
+-- the size of a join
 size_two : (a b : List (List ℕ)) → size (a ++ b) ≡ size a + size b
 size_two a b = ap length (concat-append a b) ∙ length-append (concat a) (concat b)
 
@@ -53,6 +56,7 @@ few ((u ∷ g) ∷ gs) (h ∷ hs) xs greedy fits e =
       | inr (v, r, p, q) ↦ absurd (too_large xs (u ∷ g) h v r (flat hs) (flat gs) p q greedy.1 fits.0)
     ]
 
+-- no cut into whole units has fewer blocks
 pub fewest : (text : List ℕ) (blocks : List (List ℕ × Bool)) (others : List (List (List ℕ))) → CutOf text blocks → IsCutInto text others → length blocks ≤ length others
 fewest text blocks others c o =
     let n : length blocks ≡ length c.groups = simp length-map at (ap length c.bytes) in
@@ -61,16 +65,19 @@ fewest text blocks others c o =
 
 -- ---- one such list
 
+-- a group that reaches as far as a full one is that one
 group_past : (g h : List (List ℕ)) (r : List (List ℕ)) (d b : List (List ℕ)) → g ≡ h ++ r → d ≡ r ++ b → IsFull BLOCK_WRITTEN (size h) d → size g ≤ BLOCK_WRITTEN → g ≡ h
 group_past g h [] d b e f full fits = e ∙ append-nil h
 group_past g h (u ∷ r) d b e f full fits = absurd (too_large [] h g u r b d e f full fits)
 
+-- what is left behind the same front
 same_tail : (a b c d : List (List ℕ)) → a ≡ b → a ++ c ≡ b ++ d → c ≡ d
 same_tail [] [] c d e f = f
 same_tail [] (y ∷ b) c d e f = absurd (cc)
 same_tail (x ∷ a) [] c d e f = absurd (cc)
 same_tail (x ∷ a) (y ∷ b) c d e f = let g : a ≡ b = cc in let h : a ++ c ≡ b ++ d = cc in same_tail a b c d g h
 
+-- two cuts that are as full as they can be are one
 same_groups : (gs hs : List (List (List ℕ))) → IsGreedy gs → EachGroupFits gs → IsGreedy hs → EachGroupFits hs → flat gs ≡ flat hs → gs ≡ hs
 same_groups [] [] a b c d e = refl
 same_groups [] ([] ∷ hs) a b c d e = let some = c.0 in absurd (omega arith)
@@ -90,6 +97,7 @@ bools_same true b f g = sym (f refl)
 bools_same false true f g = g refl
 bools_same false false f g = refl
 
+-- the marks follow from the bytes
 same_marks : (a b : List (List ℕ × Bool)) → MarksLast a → MarksLast b → map (λ (x : List ℕ × Bool). x.0) a ≡ map (λ (x : List ℕ × Bool). x.0) b → a ≡ b
 same_marks [] [] m n e = refl
 same_marks [] (y ∷ b) m n e = absurd (cc)
@@ -104,6 +112,7 @@ same_marks ((x, p) ∷ v ∷ a) ((y, q) ∷ w ∷ b) m n e =
     let on = same_marks (v ∷ a) (w ∷ b) m.1 n.1 t in
     cc
 
+-- a text has one cut into blocks
 pub one_cut : (text : List ℕ) (a b : List (List ℕ × Bool)) → CutOf text a → CutOf text b → a ≡ b
 one_cut text a b x y =
     let g = same_groups x.groups y.groups x.greedy x.cut.fits y.greedy y.cut.fits (x.cut.whole ∙ sym y.cut.whole) in
@@ -116,6 +125,7 @@ flat_join : (gs : List (List (List ℕ))) → concat (map concat gs) ≡ concat 
 flat_join [] = refl
 flat_join (g ∷ gs) = ap (λ x. concat g ++ x) (flat_join gs) ∙ sym (concat-append g (flat gs))
 
+-- the blocks joined are the text
 pub blocks_joined : (text : List ℕ) (blocks : List (List ℕ × Bool)) → CutOf text blocks → concat (map (λ (b : List ℕ × Bool). b.0) blocks) ≡ text
 blocks_joined text blocks c = ap concat c.bytes ∙ flat_join c.groups ∙ ap concat c.cut.whole ∙ join_units text
 
@@ -124,12 +134,14 @@ some_group : (block : List ℕ) (more : List (List ℕ)) (gs : List (List (List 
 some_group block more [] greedy e = absurd (cc)
 some_group block more (g ∷ gs) greedy e = let same : block ≡ concat g = cc in let some = greedy.0 in let l = ap length same in omega arith
 
+-- no text, no blocks
 none_cut : (block : List ℕ × Bool) (more : List (List ℕ × Bool)) → CutOf [] (block ∷ more) → ⊥
 none_cut block more c =
     let some = some_group block.0 (map (λ (b : List ℕ × Bool). b.0) more) c.groups c.greedy c.bytes in
     let l = ap length (blocks_joined [] (block ∷ more) c) in
     omega (arith, length-append block.0 (concat (map (λ (b : List ℕ × Bool). b.0) more)))
 
+-- the mark of a first block
 marks_here : (block after : List ℕ) (last : Bool) (more : List (List ℕ × Bool)) → Marks last after → CutOf after more → MarksLast ((block, last) ∷ more)
 marks_here block after last [] m c = m.1 (sym (blocks_joined after [] c))
 marks_here block after true (b ∷ more) m c = absurd (none_cut b more (subst (λ l. CutOf l (b ∷ more)) (m.0 refl) c))
@@ -150,6 +162,7 @@ cut_more text block after last more f m c =
       marks = marks_here block after last more m c;
     }
 
+-- the cut of no text
 pub cut_empty : (text : List ℕ) → text ≡ [] → CutOf text []
 cut_empty text none = record { groups = []; cut = record { whole = sym (ap units_of none ∙ no_units); fits = tt }; greedy = tt; bytes = refl; marks = tt }
 

@@ -19,6 +19,7 @@ begun_front front [] s = subst (λ b. IsBegun b) (append-nil front) s
 begun_front front (x ∷ more) (shape, b, rest, s) =
     (shape, x, more ++ b ∷ rest, subst (λ bytes. Spelled shape bytes) (append_assoc front (x ∷ more) (b ∷ rest)) s)
 
+-- no bytes are a proper front of a spelling
 pub nothing_begun : IsBegun []
 nothing_begun = (Enq, 5, [], (tt, refl))
 
@@ -44,6 +45,7 @@ piece_heard shape piece after shapes a =
     ∙ ap (λ h. hear_all (hear h a.last) after) (begun_heard [] a.front shapes a.begun)
     ∙ ap (λ x. hear_all (after_answer shapes (a.front ++ a.last ∷ []) x) after) answered
 
+-- the frames of the definition are heard behind others
 heard_from : (bytes : List ℕ) (shapes : List FrameShape) (rest : List ℕ) (before : List FrameShape) → HeardAs bytes shapes rest → hear_all (record { begun = []; shapes = before }) bytes ≡ record { begun = rest; shapes = before ++ shapes }
 heard_from bytes [] rest before (same, s) =
     ap (λ b. hear_all (record { begun = []; shapes = before }) b) same
@@ -65,12 +67,15 @@ heard_is bytes shapes rest h = heard_from bytes shapes rest [] h
 abbrev Adds : List ℕ → List ℕ → List FrameShape → Hearing → Type 0
 Adds begun bytes before to = (shapes : List FrameShape) × (to.shapes ≡ before ++ shapes) × HeardAs (begun ++ bytes) shapes to.begun
 
+-- nothing more is heard
 adds_nothing : (begun : List ℕ) (before : List FrameShape) → IsBegun begun → Adds begun [] before (record { begun = begun; shapes = before })
 adds_nothing begun before s = ([], sym (append-nil before), (append-nil begun, s))
 
+-- a byte without an answer
 adds_begun : (begun more : List ℕ) (b : ℕ) (before : List FrameShape) (to : Hearing) → Adds (begun ++ b ∷ []) more before to → Adds begun (b ∷ more) before to
 adds_begun begun more b before to (shapes, e, h) = (shapes, e, subst (λ x. HeardAs x shapes to.begun) (append_assoc begun (b ∷ []) more) h)
 
+-- a byte with an answer
 adds_answer : (begun more : List ℕ) (b : ℕ) (shape : FrameShape) (before : List FrameShape) (to : Hearing) → IsBegun begun → Answers (begun ++ b ∷ []) (Some shape) → Adds [] more (before ++ shape ∷ []) to → Adds begun (b ∷ more) before to
 adds_answer begun more b shape before to s a (shapes, e, h) = (
   shape ∷ shapes,
@@ -82,11 +87,13 @@ adds_step : (begun more : List ℕ) (b : ℕ) (before : List FrameShape) (a : Op
 adds_step begun more b before None s a on = adds_begun begun more b before _ (on (begun ++ b ∷ []) before a)
 adds_step begun more b before (Some shape) s a on = adds_answer begun more b shape before _ s a (on [] (before ++ shape ∷ []) nothing_begun)
 
+-- what is heard is added
 heard_adds : (bytes begun : List ℕ) (before : List FrameShape) → IsBegun begun → Adds begun bytes before (hear_all (record { begun = begun; shapes = before }) bytes)
 heard_adds [] begun before s = adds_nothing begun before s
 heard_adds (b ∷ more) begun before s =
     adds_step begun more b before (judge (begun ++ b ∷ [])) s (answers_judged (begun ++ b ∷ []) (judge (begun ++ b ∷ [])) refl) (λ next shapes t. heard_adds more next shapes t)
 
+-- what is heard are the frames of the definition
 pub heard_frames : (bytes : List ℕ) → HeardAs bytes (hear_all nothing_heard bytes).shapes (hear_all nothing_heard bytes).begun
 heard_frames bytes =
     let r : Adds [] bytes [] (hear_all nothing_heard bytes) = heard_adds bytes [] [] nothing_begun in

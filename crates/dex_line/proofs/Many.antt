@@ -1,13 +1,12 @@
 -- Many bytes at once: what a scanner has begun, and what it hears.
 use Rattle.std.proofs.Common.{◌≡◌, ℕ, ◌+◌, ◌-◌, ◌<◌, ◌≤◌, List, [], ◌∷◌, ◌++◌, length, take, drop, get_or, Some, None, Option, refl, sym, ◌∙◌, ap, subst, arith, append-nil, take-take, false}
 use Rattle.std.specs.Prelude.{is_some}
-use Rattle.std.specs.List.{fold}
 use Rattle.std.proofs.lemmas.List.{take_more, take-append-drop, drop-take}
 use Rattle.std.proofs.lemmas.List.Sums.{fold-append}
 use Rattle.dex_line.specs.Bytes.{dle}
-use Rattle.dex_line.specs.FrameShapes.{FrameShape, Ack0, answer_seen, frame_seen, shapes_seen}
+use Rattle.dex_line.specs.FrameShapes.{Ack0, answer_seen, frame_seen, shapes_seen}
 use Rattle.dex_line.specs.FrameSpelling.{opening, IsBegun}
-use Rattle.dex_line.specs.Hearing.{Hearing, after_answer, hear, hear_all, hearing}
+use Rattle.dex_line.specs.Hearing.{after_answer, hear, hear_all, hearing}
 use Rattle.dex_line.specs.Judging.{judge}
 use Rattle.dex_line.specs.Scanning.{begun, kept, IsSound}
 use Rattle.dex_line.specs.declared.frame.Frame.{Frame}
@@ -41,10 +40,12 @@ text_heard start bytes old new place next on heard grows begins =
     ap (hear_all (hearing start [])) (further place next bytes on) ∙ fold-append hear (hearing start []) (take place bytes) piece
     ∙ ap (λ h. hear_all h piece) heard ∙ begun_heard old piece [] (subst (λ l. IsBegun l) grows begins) ∙ ap (λ l. hearing l []) (sym grows)
 
+-- no answer is no frame
 pub none_seen : (answer : Option Frame) → is_some answer ≡ false → shapes_seen answer ≡ []
 none_seen None none = refl
 none_seen (Some frame) none = absurd (cc)
 
+-- what one push leaves is what is heard
 step_heard : (bytes new : List ℕ) (answer : Option Frame) → answer_seen answer ≡ judge bytes → new ≡ kept answer bytes → after_answer [] bytes (judge bytes) ≡ hearing new (shapes_seen answer)
 step_heard bytes new None told left = ap (after_answer [] bytes) (sym told) ∙ ap (λ b. hearing b []) (sym left)
 step_heard bytes new (Some frame) told left = ap (after_answer [] bytes) (sym told) ∙ ap (λ b. hearing b (frame_seen frame ∷ [])) (sym left)

@@ -31,15 +31,18 @@ last_byte : (b : ℕ) (more : List ℕ) → (front : List ℕ) × (last : ℕ) �
 last_byte b [] = ([], b, refl)
 last_byte b (c ∷ more) = let (front, last, e) = last_byte c more in (b ∷ front, last, ap (λ l. b ∷ l) e)
 
+-- bytes that spell a frame are answered by it, and no sooner
 answered_as : (shape : FrameShape) (bytes : List ℕ) → Spelled shape bytes → IsAnswered shape bytes
 answered_as shape [] s = let e = judged_whole shape [] s in absurd (cc)
 answered_as shape (b ∷ more) s =
     let (front, last, e) = last_byte b more in
     record { front = front; last = last; whole = e; begun = (shape, last, [], subst (λ x. Spelled shape x) e s); answer = answers_judged (b ∷ more) (Some shape) (sym (judged_whole shape (b ∷ more) s)) }
 
+-- a frame that is cut short has begun
 cut_begun : (cut : List ℕ) → IsCutShort cut → IsBegun cut
 cut_begun cut (shape, b, more, s, e) = (shape, b, more, subst (λ x. Spelled shape x) e (said shape s))
 
+-- frames that are said, the last one perhaps cut short, are heard so by the definition
 heard_as : (shapes : List FrameShape) (cut : List ℕ) → AreSpoken shapes → IsCutShort cut → HeardAs (flat_map spelling shapes ++ cut) shapes cut
 heard_as [] cut a s = (refl, cut_begun cut s)
 heard_as (shape ∷ shapes) cut a s =
@@ -62,6 +65,7 @@ one_parse a b v w x y s t e =
 both_all : (a b : List ℕ) → list_all is_text (a ++ b) ≡ true → (list_all is_text a ≡ true) × (list_all is_text b ≡ true)
 both_all a b h = let e = list_all-append is_text a b in let f : (list_all is_text a && list_all is_text b) ≡ true = sym e ∙ h in (grind (arith, nat_tests), grind (arith, nat_tests))
 
+-- a block of a text of text bytes can be said, and what is left is such a text
 pub block_said : (text block after : List ℕ) → list_all is_text text ≡ true → IsFirstBlock text block after → IsTextOf opens.Block block × (list_all is_text after ≡ true)
 block_said text block after h f =
     let b = both_all block after (sym (ap (list_all is_text) f.joined) ∙ h) in

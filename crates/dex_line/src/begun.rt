@@ -8,7 +8,7 @@ ghost use Rattle.dex_line.specs.Judging.{closed};
 ghost use Rattle.dex_line.specs.Scanning.{begun, begun_with, judged_at, kept, IsSound};
 
 use super::bytes::{DLE, ENQ, EOT, ETX, NAK, SOH, STX, is_text_byte, text_run};
-use super::frame::{BLOCK_READ, Frame, Opened, block_text, header_text};
+use super::frame::{BLOCK_READ, Frame, Opened};
 use arrayvec::ArrayVec;
 use block_check::Running;
 
@@ -200,10 +200,7 @@ fn whole(opened: Opened, closing: u8, text: &[u8]) -> Frame
     ensures { frame_seen result ≡ closed opened text.now closing }
 {
     match opened {
-        Opened::Header => Frame::Header(header_text(text)),
-        Opened::Block => Frame::Block {
-            last: closing == ETX,
-            text: block_text(text),
-        },
+        Opened::Header => Frame::header(text),
+        Opened::Block => Frame::block(closing == ETX, text),
     }
 }
