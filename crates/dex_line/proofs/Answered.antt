@@ -14,13 +14,15 @@ is_eq : (b n : ℕ) → (b == n) ≡ true → b ≡ n
 is_eq b n h = grind (arith, nat_tests)
 
 -- a frame of these bytes, with more behind it
-told_at : (shape : FrameShape) (front : List ℕ) (n b : ℕ) (more : List ℕ) → (b == n) ≡ true → Spelled shape (front ++ n ∷ []) → Told (front ++ b ∷ more) (ends shape more)
+told_at : (shape : FrameShape) (front : List ℕ) (n b : ℕ) (more : List ℕ) → (b == n) ≡ true
+    → Spelled shape (front ++ n ∷ []) → Told (front ++ b ∷ more) (ends shape more)
 told_at shape front n b more h s =
     subst (λ m. Told (front ++ m ∷ more) (ends shape more)) (sym (is_eq b n h))
     (subst (λ x. Told x (ends shape more)) (append_assoc front (n ∷ []) more) (told_ends shape (front ++ n ∷ []) more s))
 
 -- the same where the byte that opens a text is known by a test
-told_opened : (b n : ℕ) (more : List ℕ) (a : Option FrameShape) → (b == n) ≡ true → Told (16 ∷ n ∷ more) a → Told (16 ∷ b ∷ more) a
+told_opened : (b n : ℕ) (more : List ℕ) (a : Option FrameShape) → (b == n) ≡ true → Told (16 ∷ n ∷ more) a
+    → Told (16 ∷ b ∷ more) a
 told_opened b n more a h t = subst (λ m. Told (16 ∷ m ∷ more) a) (sym (is_eq b n h)) t
 
 -- behind a first DLE
@@ -55,12 +57,14 @@ told (b ∷ more) =
 abbrev Stays : Option FrameShape → Option FrameShape → Type 0
 Stays a b = a ≡ Some Bad → b ≡ Some Bad
 
-stays_if : (t : Bool) (x y v w : Option FrameShape) → Stays x v → Stays y w → Stays (if t then x else y) (if t then v else w)
+stays_if : (t : Bool) (x y v w : Option FrameShape) → Stays x v → Stays y w
+    → Stays (if t then x else y) (if t then v else w)
 stays_if true x y v w f g = f
 stays_if false x y v w f g = g
 
 -- a whole frame, with more behind it
-stays_ends : (shape : FrameShape) (rest more : List ℕ) → (shape ≡ Bad → ⊥) → Stays (ends shape rest) (ends shape (rest ++ more))
+stays_ends : (shape : FrameShape) (rest more : List ℕ) → (shape ≡ Bad → ⊥)
+    → Stays (ends shape rest) (ends shape (rest ++ more))
 stays_ends shape [] more n h = let e : shape ≡ Bad = cc in absurd (n e)
 stays_ends shape (b ∷ rest) more n h = refl
 
@@ -77,17 +81,21 @@ checked_not_bad : (o : Opened) (text : List ℕ) (c low high : ℕ) → checked 
 checked_not_bad o text c low high = if_not_bad _ (closed o text c) Damaged (closed_not_bad o text c) (λ h. cc)
 
 -- each step of the decision stays bad
-stays_check : (o : Opened) (text : List ℕ) (c : ℕ) (rest more : List ℕ) → Stays (judge_check o text c rest) (judge_check o text c (rest ++ more))
+stays_check : (o : Opened) (text : List ℕ) (c : ℕ) (rest more : List ℕ)
+    → Stays (judge_check o text c rest) (judge_check o text c (rest ++ more))
 stays_check o text c [] more h = absurd (cc)
 stays_check o text c (low ∷ []) more h = absurd (cc)
-stays_check o text c (low ∷ high ∷ rest) more h = stays_ends (checked o text c low high) rest more (checked_not_bad o text c low high) h
+stays_check o text c (low ∷ high ∷ rest) more h =
+    stays_ends (checked o text c low high) rest more (checked_not_bad o text c low high) h
 
-stays_closing : (o : Opened) (text rest more : List ℕ) → Stays (judge_closing o text rest) (judge_closing o text (rest ++ more))
+stays_closing : (o : Opened) (text rest more : List ℕ)
+    → Stays (judge_closing o text rest) (judge_closing o text (rest ++ more))
 stays_closing o text [] more h = absurd (cc)
 stays_closing o text (c ∷ rest) more h =
     stays_if (is_closing o c) (judge_check o text c rest) (Some Bad) (judge_check o text c (rest ++ more)) (Some Bad) (stays_check o text c rest more) (λ e. refl) h
 
-stays_text : (o : Opened) (text rest more : List ℕ) → Stays (judge_text o text rest) (judge_text o text (rest ++ more))
+stays_text : (o : Opened) (text rest more : List ℕ)
+    → Stays (judge_text o text rest) (judge_text o text (rest ++ more))
 stays_text o text [] more h = absurd (cc)
 stays_text o text (b ∷ rest) more h =
     let grown : List ℕ = text ++ b ∷ [] in
@@ -172,7 +180,8 @@ answers_judged bytes a e = answers_as bytes a (sym e)
 -- what is neither begun nor spelled is judged to be bad
 none_left : (bytes : List ℕ) (a : Option FrameShape) → judge bytes ≡ a → IsNoFrame bytes → a ≡ Some Bad
 none_left bytes None e n = absurd (n.0 (told_none bytes e))
-none_left bytes (Some shape) e n = elim (told_some bytes shape e) [ inl bad ↦ ap (λ f. Some f) bad | inr s ↦ absurd (n.1 shape s) ]
+none_left bytes (Some shape) e n =
+    elim (told_some bytes shape e) [ inl bad ↦ ap (λ f. Some f) bad | inr s ↦ absurd (n.1 shape s) ]
 
 -- and there is no other answer
 pub judged_answer : (bytes : List ℕ) (a : Option FrameShape) → Answers bytes a → judge bytes ≡ a

@@ -11,7 +11,8 @@ use Rattle.dex_line.proofs.Captures.{frames_on, frames_one, frames_only}
 -- ---- frames that were said
 
 -- a frame that is said first is the first frame
-first_said : (shape : FrameShape) (rest : List ℕ) → IsSpoken shape → IsFirstFrame shape (spelling shape ++ rest) (left_behind shape rest)
+first_said : (shape : FrameShape) (rest : List ℕ) → IsSpoken shape
+    → IsFirstFrame shape (spelling shape ++ rest) (left_behind shape rest)
 first_said Enq rest s = (spelling Enq, said Enq s, refl)
 first_said Ack0 rest s = (spelling Ack0, said Ack0 s, refl)
 first_said Ack1 rest s = (spelling Ack1, said Ack1 s, refl)
@@ -23,7 +24,8 @@ first_said Damaged rest s = absurd s
 first_said Bad rest s = absurd s
 
 -- frames that are said one after another are the frames of their spellings
-frames_said : (shapes : List FrameShape) (place : ℕ) → AreSpoken shapes → FramesIn place (flat_map spelling shapes) (with_places place shapes)
+frames_said : (shapes : List FrameShape) (place : ℕ) → AreSpoken shapes
+    → FramesIn place (flat_map spelling shapes) (with_places place shapes)
 frames_said [] place a = refl
 frames_said (shape ∷ shapes) place a =
     let on = frames_said shapes (place + length (spelling shape)) a.1 in
@@ -31,8 +33,10 @@ frames_said (shape ∷ shapes) place a =
     (first_said shape (flat_map spelling shapes) a.0) on
 
 -- and a scanner finds them
-pub said_captured : (shapes : List FrameShape) → AreSpoken shapes → frames_from 0 (flat_map spelling shapes) ≡ with_places 0 shapes
-said_captured shapes a = sym (frames_only 0 (flat_map spelling shapes) (with_places 0 shapes) (frames_said shapes 0 a))
+pub said_captured : (shapes : List FrameShape) → AreSpoken shapes
+    → frames_from 0 (flat_map spelling shapes) ≡ with_places 0 shapes
+said_captured shapes a =
+    sym (frames_only 0 (flat_map spelling shapes) (with_places 0 shapes) (frames_said shapes 0 a))
 
 -- ---- what frames cover
 
@@ -66,7 +70,9 @@ abbrev any_refused : List (ℕ × FrameShape) → Bool
 any_refused frames = list_any (λ (frame : ℕ × FrameShape). is_refused frame.1) frames
 
 -- one frame more in front
-covered_on : (refused : Bool) (place at : ℕ) (shape : FrameShape) (bytes left : List ℕ) (more : List (ℕ × FrameShape)) → is_refused shape ≡ refused → Parts shape bytes left → FramesIn place left more → IsCoveredBy left more → IsCoveredBy bytes ((at, shape) ∷ more)
+covered_on : (refused : Bool) (place at : ℕ) (shape : FrameShape) (bytes left : List ℕ) (more : List (ℕ × FrameShape))
+    → is_refused shape ≡ refused → Parts shape bytes left → FramesIn place left more → IsCoveredBy left more
+    → IsCoveredBy bytes ((at, shape) ∷ more)
 covered_on true place at shape bytes left more is p on c =
     let (none, nothing) = p.refused is in
     let last : more ≡ [] = frames_one more [] place left on nothing in
@@ -82,7 +88,8 @@ covered_on false place at shape bytes left more is p on c = record {
 }
 
 -- the frames cover the bytes up to the one that is refused
-pub frames_cover : (frames : List (ℕ × FrameShape)) (place : ℕ) (bytes : List ℕ) → FramesIn place bytes frames → IsCoveredBy bytes frames
+pub frames_cover : (frames : List (ℕ × FrameShape)) (place : ℕ) (bytes : List ℕ) → FramesIn place bytes frames
+    → IsCoveredBy bytes frames
 frames_cover [] place bytes none = record { rest = []; joined = none; whole = λ h. refl }
 frames_cover ((p, shape) ∷ more) place bytes (at, left, first, on) =
     covered_on (is_refused shape) (place + length (spelling shape)) p shape bytes left more refl (parts_of shape bytes left first) on

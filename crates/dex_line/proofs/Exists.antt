@@ -26,7 +26,8 @@ some_onto b (line ∷ lines) s = (omega arith, s.1)
 some_lines : (text : List ℕ) → EachSome (lines_of text)
 unfolding lines_of
 some_lines [] = tt
-some_lines (b ∷ more) = some_if (b == 10) ((b ∷ []) ∷ lines_of more) (onto_first b (lines_of more)) (omega arith, some_lines more) (some_onto b (lines_of more) (some_lines more))
+some_lines (b ∷ more) =
+    some_if (b == 10) ((b ∷ []) ∷ lines_of more) (onto_first b (lines_of more)) (omega arith, some_lines more) (some_onto b (lines_of more) (some_lines more))
 
 some_paired : (lines : List (List ℕ)) → EachSome lines → EachSome (paired lines)
 unfolding paired
@@ -48,13 +49,15 @@ record Good (g units : List (List ℕ)) (gs : List (List (List ℕ))) : Type 0 w
   fits : EachGroupFits gs
   greedy : IsGreedy gs
 
-good_if : (g units : List (List ℕ)) (t : Bool) (x y : List (List (List ℕ))) → (t ≡ true → Good g units x) → (t ≡ false → Good g units y) → Good g units (if t then x else y)
+good_if : (g units : List (List ℕ)) (t : Bool) (x y : List (List (List ℕ))) → (t ≡ true → Good g units x)
+    → (t ≡ false → Good g units y) → Good g units (if t then x else y)
 good_if g units true x y f h = f refl
 good_if g units false x y f h = h refl
 
 -- the size of a group with one unit more
 size_more : (g : List (List ℕ)) (u : List ℕ) → length (concat (g ++ u ∷ [])) ≡ length (concat g) + length u
-size_more g u = ap length (concat-append g (u ∷ []) ∙ ap (λ x. concat g ++ x) (append-nil u)) ∙ length-append (concat g) u
+size_more g u =
+    ap length (concat-append g (u ∷ []) ∙ ap (λ x. concat g ++ x) (append-nil u)) ∙ length-append (concat g) u
 
 size_one : (u : List ℕ) → length (concat (u ∷ [])) ≡ length u
 size_one u = ap length (append-nil u)
@@ -67,7 +70,8 @@ no_room : (m n : ℕ) → nat_le m n ≡ false → n < m
 no_room m n h = grind (arith, nat_tests)
 
 -- units are placed well behind a group that has begun
-placed_good : (g units : List (List ℕ)) → 0 < length (concat g) → length (concat g) ≤ BLOCK_WRITTEN → EachFits units → EachSome units → Good g units (placed g units)
+placed_good : (g units : List (List ℕ)) → 0 < length (concat g) → length (concat g) ≤ BLOCK_WRITTEN → EachFits units
+    → EachSome units → Good g units (placed g units)
 placed_good g [] s f e m = record { whole = refl; fits = (f, tt); greedy = (s, tt, tt) }
 placed_good g (u ∷ units) s f e m =
     good_if g (u ∷ units) (nat_le (length (concat g) + length u) BLOCK_WRITTEN) (placed (g ++ u ∷ []) units) (g ∷ placed (u ∷ []) units)
@@ -125,7 +129,8 @@ pub blocks_empty : (text : List ℕ) → text ≡ [] → blocks_of text ≡ []
 blocks_empty text none = ap blocks_of none ∙ ap (λ units. marked (map concat (groups_of units))) no_units
 
 -- the first block, and the blocks of what is left
-pub blocks_step : (text block after : List ℕ) (last : Bool) → UnitsFit text → IsFirstBlock text block after → Marks last after → blocks_of text ≡ (block, last) ∷ blocks_of after
+pub blocks_step : (text block after : List ℕ) (last : Bool) → UnitsFit text → IsFirstBlock text block after
+    → Marks last after → blocks_of text ≡ (block, last) ∷ blocks_of after
 blocks_step text block after last fit f m =
     one_cut text (blocks_of text) ((block, last) ∷ blocks_of after) (blocks_cut text fit)
     (cut_more text block after last (blocks_of after) f m (blocks_cut after (fit_after text block after fit f)))

@@ -37,7 +37,8 @@ split_two (x ∷ a) b (u ∷ c) d e =
     ]
 
 -- a group that goes past a full one is too large
-too_large : (xs g h : List (List ℕ)) (u : List ℕ) (r d b : List (List ℕ)) → h ≡ (xs ++ g) ++ u ∷ r → b ≡ (u ∷ r) ++ d → IsFull BLOCK_WRITTEN (size g) b → size h ≤ BLOCK_WRITTEN → ⊥
+too_large : (xs g h : List (List ℕ)) (u : List ℕ) (r d b : List (List ℕ)) → h ≡ (xs ++ g) ++ u ∷ r → b ≡ (u ∷ r) ++ d
+    → IsFull BLOCK_WRITTEN (size g) b → size h ≤ BLOCK_WRITTEN → ⊥
 too_large xs g h u r d b e f full fits =
     let at : IsFull BLOCK_WRITTEN (size g) (u ∷ (r ++ d)) = subst (λ x. IsFull BLOCK_WRITTEN (size g) x) f full in
     let a = ap size e ∙ size_on (xs ++ g) u r in
@@ -45,7 +46,8 @@ too_large xs g h u r d b e f full fits =
     omega arith
 
 -- what is cut greedily from further on takes no more groups
-few : (gs hs : List (List (List ℕ))) (xs : List (List ℕ)) → IsGreedy gs → EachGroupFits hs → flat hs ≡ xs ++ flat gs → length gs ≤ length hs
+few : (gs hs : List (List (List ℕ))) (xs : List (List ℕ)) → IsGreedy gs → EachGroupFits hs → flat hs ≡ xs ++ flat gs
+    → length gs ≤ length hs
 few [] hs xs greedy fits e = omega arith
 few ([] ∷ gs) hs xs greedy fits e = let some = greedy.0 in absurd (omega arith)
 few ((u ∷ g) ∷ gs) [] xs greedy fits e = let l = ap length e in absurd (omega (arith, length-append xs (u ∷ (g ++ flat gs))))
@@ -57,7 +59,8 @@ few ((u ∷ g) ∷ gs) (h ∷ hs) xs greedy fits e =
     ]
 
 -- no cut into whole units has fewer blocks
-pub fewest : (text : List ℕ) (blocks : List (List ℕ × Bool)) (others : List (List (List ℕ))) → CutOf text blocks → IsCutInto text others → length blocks ≤ length others
+pub fewest : (text : List ℕ) (blocks : List (List ℕ × Bool)) (others : List (List (List ℕ))) → CutOf text blocks
+    → IsCutInto text others → length blocks ≤ length others
 fewest text blocks others c o =
     let n : length blocks ≡ length c.groups = simp length-map at (ap length c.bytes) in
     let m : length c.groups ≤ length others = few c.groups others [] c.greedy o.fits (o.whole ∙ sym c.cut.whole) in
@@ -66,7 +69,8 @@ fewest text blocks others c o =
 -- ---- one such list
 
 -- a group that reaches as far as a full one is that one
-group_past : (g h : List (List ℕ)) (r : List (List ℕ)) (d b : List (List ℕ)) → g ≡ h ++ r → d ≡ r ++ b → IsFull BLOCK_WRITTEN (size h) d → size g ≤ BLOCK_WRITTEN → g ≡ h
+group_past : (g h : List (List ℕ)) (r : List (List ℕ)) (d b : List (List ℕ)) → g ≡ h ++ r → d ≡ r ++ b
+    → IsFull BLOCK_WRITTEN (size h) d → size g ≤ BLOCK_WRITTEN → g ≡ h
 group_past g h [] d b e f full fits = e ∙ append-nil h
 group_past g h (u ∷ r) d b e f full fits = absurd (too_large [] h g u r b d e f full fits)
 
@@ -78,7 +82,8 @@ same_tail (x ∷ a) [] c d e f = absurd (cc)
 same_tail (x ∷ a) (y ∷ b) c d e f = let g : a ≡ b = cc in let h : a ++ c ≡ b ++ d = cc in same_tail a b c d g h
 
 -- two cuts that are as full as they can be are one
-same_groups : (gs hs : List (List (List ℕ))) → IsGreedy gs → EachGroupFits gs → IsGreedy hs → EachGroupFits hs → flat gs ≡ flat hs → gs ≡ hs
+same_groups : (gs hs : List (List (List ℕ))) → IsGreedy gs → EachGroupFits gs → IsGreedy hs → EachGroupFits hs
+    → flat gs ≡ flat hs → gs ≡ hs
 same_groups [] [] a b c d e = refl
 same_groups [] ([] ∷ hs) a b c d e = let some = c.0 in absurd (omega arith)
 same_groups [] ((u ∷ h) ∷ hs) a b c d e = absurd (cc)
@@ -98,7 +103,8 @@ bools_same false true f g = g refl
 bools_same false false f g = refl
 
 -- the marks follow from the bytes
-same_marks : (a b : List (List ℕ × Bool)) → MarksLast a → MarksLast b → map (λ (x : List ℕ × Bool). x.0) a ≡ map (λ (x : List ℕ × Bool). x.0) b → a ≡ b
+same_marks : (a b : List (List ℕ × Bool)) → MarksLast a → MarksLast b
+    → map (λ (x : List ℕ × Bool). x.0) a ≡ map (λ (x : List ℕ × Bool). x.0) b → a ≡ b
 same_marks [] [] m n e = refl
 same_marks [] (y ∷ b) m n e = absurd (cc)
 same_marks (x ∷ a) [] m n e = absurd (cc)
@@ -126,11 +132,13 @@ flat_join [] = refl
 flat_join (g ∷ gs) = ap (λ x. concat g ++ x) (flat_join gs) ∙ sym (concat-append g (flat gs))
 
 -- the blocks joined are the text
-pub blocks_joined : (text : List ℕ) (blocks : List (List ℕ × Bool)) → CutOf text blocks → concat (map (λ (b : List ℕ × Bool). b.0) blocks) ≡ text
+pub blocks_joined : (text : List ℕ) (blocks : List (List ℕ × Bool)) → CutOf text blocks
+    → concat (map (λ (b : List ℕ × Bool). b.0) blocks) ≡ text
 blocks_joined text blocks c = ap concat c.bytes ∙ flat_join c.groups ∙ ap concat c.cut.whole ∙ join_units text
 
 -- each block has some byte
-some_group : (block : List ℕ) (more : List (List ℕ)) (gs : List (List (List ℕ))) → IsGreedy gs → block ∷ more ≡ map concat gs → 0 < length block
+some_group : (block : List ℕ) (more : List (List ℕ)) (gs : List (List (List ℕ))) → IsGreedy gs
+    → block ∷ more ≡ map concat gs → 0 < length block
 some_group block more [] greedy e = absurd (cc)
 some_group block more (g ∷ gs) greedy e = let same : block ≡ concat g = cc in let some = greedy.0 in let l = ap length same in omega arith
 
@@ -142,13 +150,15 @@ none_cut block more c =
     omega (arith, length-append block.0 (concat (map (λ (b : List ℕ × Bool). b.0) more)))
 
 -- the mark of a first block
-marks_here : (block after : List ℕ) (last : Bool) (more : List (List ℕ × Bool)) → Marks last after → CutOf after more → MarksLast ((block, last) ∷ more)
+marks_here : (block after : List ℕ) (last : Bool) (more : List (List ℕ × Bool)) → Marks last after → CutOf after more
+    → MarksLast ((block, last) ∷ more)
 marks_here block after last [] m c = m.1 (sym (blocks_joined after [] c))
 marks_here block after true (b ∷ more) m c = absurd (none_cut b more (subst (λ l. CutOf l (b ∷ more)) (m.0 refl) c))
 marks_here block after false (b ∷ more) m c = (refl, c.marks)
 
 -- a first block, and the blocks of what is left
-pub cut_more : (text block after : List ℕ) (last : Bool) (more : List (List ℕ × Bool)) → IsFirstBlock text block after → Marks last after → CutOf after more → CutOf text ((block, last) ∷ more)
+pub cut_more : (text block after : List ℕ) (last : Bool) (more : List (List ℕ × Bool)) → IsFirstBlock text block after
+    → Marks last after → CutOf after more → CutOf text ((block, last) ∷ more)
 cut_more text block after last more f m c =
     let some = f.some in
     let fits = f.fits in
@@ -169,9 +179,13 @@ cut_empty text none = record { groups = []; cut = record { whole = sym (ap units
 -- calls up to the end give the blocks
 pub run_cut : (text : List ℕ) (blocks : List (List ℕ × Bool)) → CutRun text blocks [] → CutOf text blocks
 run_cut text [] run = cut_empty text run
-run_cut text ((block, last) ∷ more) (after, f, m, run) = cut_more text block after last more f m (run_cut after more run)
+run_cut text ((block, last) ∷ more) (after, f, m, run) =
+    cut_more text block after last more f m (run_cut after more run)
 
 -- one call more
-pub run_more : (text : List ℕ) (blocks : List (List ℕ × Bool)) (rest block after : List ℕ) (last : Bool) → CutRun text blocks rest → IsFirstBlock rest block after → Marks last after → CutRun text (blocks ++ (block, last) ∷ []) after
+pub run_more : (text : List ℕ) (blocks : List (List ℕ × Bool)) (rest block after : List ℕ) (last : Bool)
+    → CutRun text blocks rest → IsFirstBlock rest block after → Marks last after
+    → CutRun text (blocks ++ (block, last) ∷ []) after
 run_more text [] rest block after last run f m = (after, subst (λ t. IsFirstBlock t block after) (sym run) f, m, refl)
-run_more text (b ∷ blocks) rest block after last (next, g, n, run) f m = (next, g, n, run_more next blocks rest block after last run f m)
+run_more text (b ∷ blocks) rest block after last (next, g, n, run) f m =
+    (next, g, n, run_more next blocks rest block after last run f m)

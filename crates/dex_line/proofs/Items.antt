@@ -54,7 +54,8 @@ Clean [] next = Unit {0}
 Clean (x ∷ more) next = (starts_block (x ∷ (more ++ next)) ≡ false) × Clean more next
 
 -- no block begins at a byte behind such a front
-pub clean_at : (front : List ℕ) (u : ℕ) (more next : List ℕ) → Clean (front ++ u ∷ more) next → starts_block (u ∷ (more ++ next)) ≡ false
+pub clean_at : (front : List ℕ) (u : ℕ) (more next : List ℕ) → Clean (front ++ u ∷ more) next
+    → starts_block (u ∷ (more ++ next)) ≡ false
 clean_at [] u more next c = c.0
 clean_at (x ∷ front) u more next c = clean_at front u more next c.1
 
@@ -75,11 +76,13 @@ closing_not : (o : Opened) (c : ℕ) → is_closing o c ≡ true → ((c == 2) �
 closing_not opens.Header c h = (grind (arith, nat_tests), grind (arith, nat_tests))
 closing_not opens.Block c h = (grind (arith, nat_tests), grind (arith, nat_tests))
 
-pub all_first : (x : ℕ) (text : List ℕ) → list_all is_text (x ∷ text) ≡ true → (is_text x ≡ true) × (list_all is_text text ≡ true)
+pub all_first : (x : ℕ) (text : List ℕ) → list_all is_text (x ∷ text) ≡ true
+    → (is_text x ≡ true) × (list_all is_text text ≡ true)
 all_first x text h = (grind (arith, nat_tests), grind (arith, nat_tests))
 
 -- no block begins in a text and what closes it
-clean_text : (o : Opened) (text : List ℕ) (c low high : ℕ) (next : List ℕ) → list_all is_text text ≡ true → is_closing o c ≡ true → Follows next → Clean (text ++ 16 ∷ c ∷ low ∷ high ∷ []) next
+clean_text : (o : Opened) (text : List ℕ) (c low high : ℕ) (next : List ℕ) → list_all is_text text ≡ true
+    → is_closing o c ≡ true → Follows next → Clean (text ++ 16 ∷ c ∷ low ∷ high ∷ []) next
 clean_text o [] c low high next all h f =
     let n = closing_not o c h in
     (not_open 16 c (low ∷ high ∷ next) n.0, (not_mark c (low ∷ high ∷ next) n.1, (last_two low high next f, (last_one high next f, tt))))
@@ -95,7 +98,8 @@ opening_not opens.Block = refl
 
 -- an item is the spelling of a frame, or no block begins with it
 abbrev pub IsSpelledOr : List ℕ → Type 0
-IsSpelledOr item = ((shape : FrameShape) × Spelled shape item) ⊎ ((rest : List ℕ) → starts_block (item ++ rest) ≡ false)
+IsSpelledOr item =
+    ((shape : FrameShape) × Spelled shape item) ⊎ ((rest : List ℕ) → starts_block (item ++ rest) ≡ false)
 
 -- what is to be known of an item
 pub record Known (item : List ℕ) : Type 0 where
@@ -112,7 +116,8 @@ unfolding is_text
 no_text = (refl, refl, refl, refl, refl, refl)
 
 -- a text between its marks, whatever the check
-known_wrapped : (o : Opened) (text : List ℕ) (c low high : ℕ) (shape : FrameShape) → IsTextOf o text → is_closing o c ≡ true → Spelled shape (wrapped o text c low high) → Known (wrapped o text c low high)
+known_wrapped : (o : Opened) (text : List ℕ) (c low high : ℕ) (shape : FrameShape) → IsTextOf o text
+    → is_closing o c ≡ true → Spelled shape (wrapped o text c low high) → Known (wrapped o text c low high)
 known_wrapped o text c low high shape t h s = record {
   first = 16;
   more = opening o ∷ (text ++ 16 ∷ c ∷ low ∷ high ∷ []);
@@ -123,7 +128,8 @@ known_wrapped o text c low high shape t h s = record {
 }
 
 -- inverting the last byte inverts the high byte of the check
-broken_end : (text : List ℕ) (c low high : ℕ) (a b : ℕ) → broken (a ∷ b ∷ (text ++ 16 ∷ c ∷ low ∷ high ∷ [])) ≡ a ∷ b ∷ (text ++ 16 ∷ c ∷ low ∷ (255 - high) ∷ [])
+broken_end : (text : List ℕ) (c low high : ℕ) (a b : ℕ)
+    → broken (a ∷ b ∷ (text ++ 16 ∷ c ∷ low ∷ high ∷ [])) ≡ a ∷ b ∷ (text ++ 16 ∷ c ∷ low ∷ (255 - high) ∷ [])
 broken_end [] c low high a b = refl
 broken_end (x ∷ text) c low high a b = ap (λ l. a ∷ l) (broken_end text c low high b x)
 
@@ -132,17 +138,22 @@ never_inverted : (n : ℕ) → 255 - n ≡ n → ⊥
 never_inverted n e = omega arith
 
 -- so what it gives is damaged
-damaged : (o : Opened) (text : List ℕ) (c : ℕ) → IsTextOf o text → is_closing o c ≡ true → Spelled Damaged (wrapped o text c (low_check text c) (255 - high_check text c))
+damaged : (o : Opened) (text : List ℕ) (c : ℕ) → IsTextOf o text → is_closing o c ≡ true
+    → Spelled Damaged (wrapped o text c (low_check text c) (255 - high_check text c))
 damaged o text c t h = record { opened = o; text = text; closing = c; low = low_check text c; high = 255 - high_check text c; fits = t; closes = h; differs = λ p. never_inverted (high_check text c) p.1; spelled = refl }
 
-known_guarded : (o : Opened) (text : List ℕ) (c : ℕ) (shape : FrameShape) (item : List ℕ) → IsTextOf o text → is_closing o c ≡ true → Spelled shape (guarded o text c) → (item ≡ guarded o text c) ⊎ (item ≡ broken (guarded o text c)) → Known item
-known_guarded o text c shape item t h s (inl e) = subst (λ i. Known i) (sym e) (known_wrapped o text c (low_check text c) (high_check text c) shape t h s)
+known_guarded : (o : Opened) (text : List ℕ) (c : ℕ) (shape : FrameShape) (item : List ℕ) → IsTextOf o text
+    → is_closing o c ≡ true → Spelled shape (guarded o text c)
+    → (item ≡ guarded o text c) ⊎ (item ≡ broken (guarded o text c)) → Known item
+known_guarded o text c shape item t h s (inl e) =
+    subst (λ i. Known i) (sym e) (known_wrapped o text c (low_check text c) (high_check text c) shape t h s)
 known_guarded o text c shape item t h s (inr e) =
     subst (λ i. Known i) (sym (e ∙ broken_end text c (low_check text c) (high_check text c) 16 (opening o)))
     (known_wrapped o text c (low_check text c) (255 - high_check text c) Damaged t h (damaged o text c t h))
 
 -- a frame of one byte
-known_one : (b : ℕ) (item : List ℕ) → item ≡ b ∷ [] → is_text b ≡ false → (b == 2) ≡ false → (b == 16) ≡ false → Known item
+known_one : (b : ℕ) (item : List ℕ) → item ≡ b ∷ [] → is_text b ≡ false → (b == 2) ≡ false → (b == 16) ≡ false
+    → Known item
 known_one b item e n two mark = subst (λ i. Known i) (sym e) (record {
   first = b;
   more = [];
@@ -164,7 +175,8 @@ known_two b item e two mark = subst (λ i. Known i) (sym e) (record {
 })
 
 -- each item is known
-pub known : (shape : FrameShape) (item : List ℕ) → IsSpoken shape → (item ≡ spelling shape) ⊎ (item ≡ broken (spelling shape)) → Known item
+pub known : (shape : FrameShape) (item : List ℕ) → IsSpoken shape
+    → (item ≡ spelling shape) ⊎ (item ≡ broken (spelling shape)) → Known item
 known Enq item s (inl e) = known_one 5 item e no_text.0 refl refl
 known Enq item s (inr e) = known_one 250 item e no_text.3 refl refl
 known Nak item s (inl e) = known_one 21 item e no_text.1 refl refl

@@ -22,7 +22,8 @@ AreLines [] = ⊤
 AreLines (line ∷ more) = IsLine line × AreLines more
 
 -- the first line of a text
-line_first : (front rest : List ℕ) → position is_feed front ≡ None → lines_of (front ++ line_feed ∷ rest) ≡ (front ++ line_feed ∷ []) ∷ lines_of rest
+line_first : (front rest : List ℕ) → position is_feed front ≡ None
+    → lines_of (front ++ line_feed ∷ rest) ≡ (front ++ line_feed ∷ []) ∷ lines_of rest
 unfolding lines_of
 line_first [] rest none = refl
 line_first (b ∷ front) rest none =
@@ -33,20 +34,24 @@ line_first (b ∷ front) rest none =
 pub lines_join : (lines : List (List ℕ)) → AreLines lines → lines_of (concat lines) ≡ lines
 lines_join [] are = no_lines
 lines_join (line ∷ more) (is, are) =
-    ap (λ l. lines_of (l ++ concat more)) is.whole ∙ ap lines_of (append_assoc is.front (line_feed ∷ []) (concat more))
-    ∙ line_first is.front (concat more) is.none ∙ ap (λ l. l ∷ lines_of (concat more)) (sym is.whole) ∙ ap (λ l. line ∷ l) (lines_join more are)
+    ap (λ l. lines_of (l ++ concat more)) is.whole
+    ∙ ap lines_of (append_assoc is.front (line_feed ∷ []) (concat more))
+    ∙ line_first is.front (concat more) is.none ∙ ap (λ l. l ∷ lines_of (concat more)) (sym is.whole)
+    ∙ ap (λ l. line ∷ l) (lines_join more are)
 
 -- each G85 fits into a block with the SE behind it
 abbrev pub PairsFit : List (List ℕ) → Type 0
 PairsFit [] = ⊤
 PairsFit (line ∷ []) = ⊤
-PairsFit (line ∷ next ∷ more) = ((is_trailer line && is_set_end next) ≡ true → length line + length next ≤ BLOCK_WRITTEN) × PairsFit (next ∷ more)
+PairsFit (line ∷ next ∷ more) =
+    ((is_trailer line && is_set_end next) ≡ true → length line + length next ≤ BLOCK_WRITTEN) × PairsFit (next ∷ more)
 
 pairs_tail : (line : List ℕ) (more : List (List ℕ)) → PairsFit (line ∷ more) → PairsFit more
 pairs_tail line [] fit = tt
 pairs_tail line (next ∷ more) fit = fit.1
 
-fits_if : (t : Bool) (x y : List (List ℕ)) → (t ≡ true → EachFits x) → (t ≡ false → EachFits y) → EachFits (if t then x else y)
+fits_if : (t : Bool) (x y : List (List ℕ)) → (t ≡ true → EachFits x) → (t ≡ false → EachFits y)
+    → EachFits (if t then x else y)
 fits_if true x y f g = f refl
 fits_if false x y f g = g refl
 
@@ -62,7 +67,8 @@ fits_paired (line ∷ next ∷ more) each pairs =
 -- lines that fit, alone and as such pairs, are a text whose units fit
 pub units_fit : (lines : List (List ℕ)) → AreLines lines → EachFits lines → PairsFit lines → UnitsFit (concat lines)
 unfolding units_of
-units_fit lines are each pairs = subst (λ l. EachFits (paired l)) (sym (lines_join lines are)) (fits_paired lines each pairs)
+units_fit lines are each pairs =
+    subst (λ l. EachFits (paired l)) (sym (lines_join lines are)) (fits_paired lines each pairs)
 
 -- ---- text bytes
 

@@ -16,13 +16,16 @@ items_follow (item ∷ items) ((shape, s, e), a) =
     subst (λ i. Follows (i ++ concat items)) (sym k.whole) k.follows
 
 -- a block begins as blocks do
-block_starts : (last : Bool) (text : List ℕ) (back : List ℕ) → IsTextOf opens.Block text → starts_block (spelling (Block last text) ++ back) ≡ true
+block_starts : (last : Bool) (text : List ℕ) (back : List ℕ) → IsTextOf opens.Block text
+    → starts_block (spelling (Block last text) ++ back) ≡ true
 block_starts last [] back t = let some = t.some in absurd (omega arith)
 block_starts last (x ∷ text) back t = (all_first x text t.bytes).0
 
 -- a block that stands where an item begins is the item
-aligned : (last : Bool) (text : List ℕ) (item next back : List ℕ) → IsTextOf opens.Block text → IsSpelledOr item → spelling (Block last text) ++ back ≡ item ++ next → item ≡ spelling (Block last text)
-aligned last text item next back t (inl (shape, s)) e = sym (same_place (Block last text) shape (spelling (Block last text)) item back next (t, refl) s e)
+aligned : (last : Bool) (text : List ℕ) (item next back : List ℕ) → IsTextOf opens.Block text → IsSpelledOr item
+    → spelling (Block last text) ++ back ≡ item ++ next → item ≡ spelling (Block last text)
+aligned last text item next back t (inl (shape, s)) e =
+    sym (same_place (Block last text) shape (spelling (Block last text)) item back next (t, refl) s e)
 aligned last text item next back t (inr not) e =
     let yes_it = block_starts last text back t in
     let no_it = not next in
@@ -30,14 +33,19 @@ aligned last text item next back t (inr not) e =
     absurd (cc)
 
 -- one item more in front
-further : (last : Bool) (text : List ℕ) (item : List ℕ) (items : List (List ℕ)) (r front back : List ℕ) → front ≡ item ++ r → IsOneItem items r (spelling (Block last text)) back → IsOneItem (item ∷ items) front (spelling (Block last text)) back
-further last text item items r front back p (before, after, e, f, g) = (item ∷ before, after, ap (λ l. item ∷ l) e, p ∙ ap (λ x. item ++ x) f, g)
+further : (last : Bool) (text : List ℕ) (item : List ℕ) (items : List (List ℕ)) (r front back : List ℕ)
+    → front ≡ item ++ r → IsOneItem items r (spelling (Block last text)) back
+    → IsOneItem (item ∷ items) front (spelling (Block last text)) back
+further last text item items r front back p (before, after, e, f, g) =
+    (item ∷ before, after, ap (λ l. item ∷ l) e, p ∙ ap (λ x. item ++ x) f, g)
 
 tail_same : (x y : ℕ) (a b : List ℕ) → x ∷ a ≡ y ∷ b → a ≡ b
 tail_same x y a b e = cc
 
 -- a block in a join of items is one whole item
-pub one_item : (last : Bool) (text : List ℕ) (items : List (List ℕ)) (front back : List ℕ) → IsSpoken (Block last text) → AreItems items → concat items ≡ front ++ (spelling (Block last text) ++ back) → IsOneItem items front (spelling (Block last text)) back
+pub one_item : (last : Bool) (text : List ℕ) (items : List (List ℕ)) (front back : List ℕ)
+    → IsSpoken (Block last text) → AreItems items → concat items ≡ front ++ (spelling (Block last text) ++ back)
+    → IsOneItem items front (spelling (Block last text)) back
 one_item last text [] front back t a e = let l = ap length e in absurd (omega (arith, length-append front (spelling (Block last text) ++ back)))
 one_item last text (item ∷ items) [] back t ((shape, s, i), a) e =
     let k = known shape item s i in
@@ -70,7 +78,8 @@ join_last [] item = append-nil item
 join_last (x ∷ items) item = ap (λ l. x ++ l) (join_last items item) ∙ sym (append_assoc x (concat items) item)
 
 -- a list whose last element is known, cut at another
-last_of : (items : List (List ℕ)) (item piece : List ℕ) (before after : List (List ℕ)) → items ++ item ∷ [] ≡ before ++ piece ∷ after
+last_of : (items : List (List ℕ)) (item piece : List ℕ) (before after : List (List ℕ))
+    → items ++ item ∷ [] ≡ before ++ piece ∷ after
     → ((after ≡ []) × (piece ≡ item)) ⊎ ((more : List (List ℕ)) × (after ≡ more ++ item ∷ []) × (items ≡ before ++ piece ∷ more))
 last_of [] item piece [] [] e = inl (refl, cc)
 last_of [] item piece [] (y ∷ after) e = absurd (cc)
@@ -93,7 +102,9 @@ same_front (x ∷ a) [] c e = let l = ap length e in absurd (omega (arith, lengt
 same_front (x ∷ a) (y ∷ b) c e = let h : x ≡ y = cc in let t : a ++ c ≡ b ++ c = cc in ap (λ z. z ∷ a) h ∙ ap (λ l. y ∷ l) (same_front a b c t)
 
 -- the same where the last frame is cut short: with the rest of it the items are whole
-pub item_before_cut : (last : Bool) (text : List ℕ) (items : List (List ℕ)) (cut front back : List ℕ) → IsSpoken (Block last text) → AreItems items → IsCutShort cut → concat items ++ cut ≡ front ++ (spelling (Block last text) ++ back)
+pub item_before_cut : (last : Bool) (text : List ℕ) (items : List (List ℕ)) (cut front back : List ℕ)
+    → IsSpoken (Block last text) → AreItems items → IsCutShort cut
+    → concat items ++ cut ≡ front ++ (spelling (Block last text) ++ back)
     → (before : List (List ℕ)) × (after : List (List ℕ)) × (items ≡ before ++ spelling (Block last text) ∷ after) × (front ≡ concat before) × (back ≡ concat after ++ cut)
 item_before_cut last text items cut front back t a (shape, b, more, s, e) same =
     let block : List ℕ = spelling (Block last text) in
@@ -101,7 +112,8 @@ item_before_cut last text items cut front back t a (shape, b, more, s, e) same =
     let tail : List ℕ = b ∷ more in
     let all : concat (items ++ item ∷ []) ≡ front ++ (block ++ (back ++ tail)) =
     join_last items item ∙ ap (λ x. concat items ++ x) e ∙ sym (append_assoc (concat items) cut tail)
-    ∙ ap (λ x. x ++ tail) same ∙ append_assoc front (block ++ back) tail ∙ ap (λ x. front ++ x) (append_assoc block back tail) in
+    ∙ ap (λ x. x ++ tail) same ∙ append_assoc front (block ++ back) tail
+    ∙ ap (λ x. front ++ x) (append_assoc block back tail) in
     let (before, after, i, f, g) = one_item last text (items ++ item ∷ []) front (back ++ tail) t (whole_items items item a (shape, s, inl refl)) all in
     elim (last_of items item block before after i) [
       | inl none ↦ let l : length (back ++ tail) ≡ 0 = ap length (g ∙ ap concat none.0) in absurd (omega (arith, length-append back tail))
@@ -111,7 +123,8 @@ item_before_cut last text items cut front back t a (shape, b, more, s, e) same =
     ]
 
 -- so a block that occurs is an item
-pub item_of : (last : Bool) (text : List ℕ) (items : List (List ℕ)) (cut : List ℕ) → IsSpoken (Block last text) → AreItems items → IsCutShort cut → Occurs last text (concat items ++ cut)
+pub item_of : (last : Bool) (text : List ℕ) (items : List (List ℕ)) (cut : List ℕ) → IsSpoken (Block last text)
+    → AreItems items → IsCutShort cut → Occurs last text (concat items ++ cut)
     → (before : List (List ℕ)) × (after : List (List ℕ)) × (items ≡ before ++ spelling (Block last text) ∷ after)
 item_of last text items cut t a s (front, back, same) =
     let (before, after, found, f, g) = item_before_cut last text items cut front back t a s same in

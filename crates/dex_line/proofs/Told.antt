@@ -16,11 +16,13 @@ use Rattle.dex_line.proofs.Judged.{judge_behind_closing}
 -- ---- what is spelled is judged so, and with more behind it as no frame
 
 -- the right check gives the header or block
-right_check : (o : Opened) (text : List ℕ) (c : ℕ) → checked o text c (low_check text c) (high_check text c) ≡ closed o text c
+right_check : (o : Opened) (text : List ℕ) (c : ℕ)
+    → checked o text c (low_check text c) (high_check text c) ≡ closed o text c
 right_check o text c = grind (arith, nat_tests)
 
 -- another check gives Damaged
-wrong_check : (o : Opened) (text : List ℕ) (c low high : ℕ) → ((low ≡ low_check text c) × (high ≡ high_check text c) → ⊥) → checked o text c low high ≡ Damaged
+wrong_check : (o : Opened) (text : List ℕ) (c low high : ℕ)
+    → ((low ≡ low_check text c) × (high ≡ high_check text c) → ⊥) → checked o text c low high ≡ Damaged
 wrong_check o text c low high h =
     elim (cases_eq low (low_check text c)) [
       | inl one ↦ elim (cases_eq high (high_check text c)) [
@@ -31,12 +33,15 @@ wrong_check o text c low high h =
     ]
 
 -- a text between its marks is judged by its check
-wrapped_judged : (o : Opened) (text : List ℕ) (c low high : ℕ) (more : List ℕ) → IsTextOf o text → is_closing o c ≡ true → judge (wrapped o text c low high ++ more) ≡ ends (checked o text c low high) more
+wrapped_judged : (o : Opened) (text : List ℕ) (c low high : ℕ) (more : List ℕ) → IsTextOf o text
+    → is_closing o c ≡ true → judge (wrapped o text c low high ++ more) ≡ ends (checked o text c low high) more
 wrapped_judged o text c low high more t h =
-    ap (λ r. judge (16 ∷ opening o ∷ r)) (append_assoc text (16 ∷ c ∷ low ∷ high ∷ []) more) ∙ judge_behind_closing o text c (low ∷ high ∷ more) t h
+    ap (λ r. judge (16 ∷ opening o ∷ r)) (append_assoc text (16 ∷ c ∷ low ∷ high ∷ []) more)
+    ∙ judge_behind_closing o text c (low ∷ high ∷ more) t h
 
 -- a spelling is judged to be its frame, and with more behind it to be bad
-spelled_judged : (shape : FrameShape) (bytes more : List ℕ) → Spelled shape bytes → judge (bytes ++ more) ≡ ends shape more
+spelled_judged : (shape : FrameShape) (bytes more : List ℕ) → Spelled shape bytes
+    → judge (bytes ++ more) ≡ ends shape more
 spelled_judged Enq bytes more s = ap (λ b. judge (b ++ more)) s.1
 spelled_judged Ack0 bytes more s = ap (λ b. judge (b ++ more)) s.1
 spelled_judged Ack1 bytes more s = ap (λ b. judge (b ++ more)) s.1
@@ -73,7 +78,8 @@ pub never_bad : (shape : FrameShape) (bytes : List ℕ) → Spelled shape bytes 
 never_bad shape bytes s e = subst (λ f. Spelled f bytes) e s
 
 -- no spelling is a proper front of another
-pub no_front : (a b : FrameShape) (bytes : List ℕ) (x : ℕ) (more : List ℕ) → Spelled a bytes → Spelled b (bytes ++ x ∷ more) → ⊥
+pub no_front : (a b : FrameShape) (bytes : List ℕ) (x : ℕ) (more : List ℕ) → Spelled a bytes
+    → Spelled b (bytes ++ x ∷ more) → ⊥
 no_front a b bytes x more s t =
     let e = spelled_judged a bytes (x ∷ more) s in
     let f = judged_whole b (bytes ++ x ∷ more) t in
@@ -88,7 +94,8 @@ Told bytes None = IsBegun bytes
 Told bytes (Some shape) = (shape ≡ Bad) ⊎ Spelled shape bytes
 
 -- of each side of a test
-pub told_if : (bytes : List ℕ) (t : Bool) (x y : Option FrameShape) → (t ≡ true → Told bytes x) → (t ≡ false → Told bytes y) → Told bytes (if t then x else y)
+pub told_if : (bytes : List ℕ) (t : Bool) (x y : Option FrameShape) → (t ≡ true → Told bytes x)
+    → (t ≡ false → Told bytes y) → Told bytes (if t then x else y)
 told_if bytes true x y f g = f refl
 told_if bytes false x y f g = g refl
 
@@ -98,13 +105,15 @@ unfolding Told
 told_bad bytes = inl refl
 
 -- of a whole frame, with more behind it
-pub told_ends : (shape : FrameShape) (bytes more : List ℕ) → Spelled shape bytes → Told (bytes ++ more) (ends shape more)
+pub told_ends : (shape : FrameShape) (bytes more : List ℕ) → Spelled shape bytes
+    → Told (bytes ++ more) (ends shape more)
 unfolding Told
 told_ends shape bytes [] s = inr (subst (λ b. Spelled shape b) (sym (append-nil bytes)) s)
 told_ends shape bytes (b ∷ more) s = inl refl
 
 -- of a front of a spelling
-pub told_begun : (bytes : List ℕ) (shape : FrameShape) (b : ℕ) (more : List ℕ) → Spelled shape (bytes ++ b ∷ more) → Told bytes None
+pub told_begun : (bytes : List ℕ) (shape : FrameShape) (b : ℕ) (more : List ℕ) → Spelled shape (bytes ++ b ∷ more)
+    → Told bytes None
 unfolding Told
 told_begun bytes shape b more s = (shape, b, more, s)
 
@@ -113,13 +122,16 @@ closing_of_block : (c : ℕ) → is_closing opens.Block c ≡ true → block_end
 closing_of_block c h = elim (cases_eq c 3) [ inl same ↦ rw same refl | inr other ↦ grind (arith, nat_tests) ]
 
 -- a header or block with its check is spelled so
-spelled_closed : (o : Opened) (text : List ℕ) (c : ℕ) → IsTextOf o text → is_closing o c ≡ true → Spelled (closed o text c) (guarded o text c)
+spelled_closed : (o : Opened) (text : List ℕ) (c : ℕ) → IsTextOf o text → is_closing o c ≡ true
+    → Spelled (closed o text c) (guarded o text c)
 spelled_closed opens.Header text c t h = let e : c ≡ 3 = grind (arith, nat_tests) in (t, ap (λ n. guarded opens.Header text n) e)
 spelled_closed opens.Block text c t h = (t, ap (λ n. guarded opens.Block text n) (sym (closing_of_block c h)))
 
 -- so many bytes of a whole text's spelling
-told_part : (o : Opened) (text : List ℕ) (c : ℕ) (front : List ℕ) (b : ℕ) (more : List ℕ) → IsTextOf o text → is_closing o c ≡ true → guarded o text c ≡ front ++ b ∷ more → Told front None
-told_part o text c front b more t h e = told_begun front (closed o text c) b more (subst (λ x. Spelled (closed o text c) x) e (spelled_closed o text c t h))
+told_part : (o : Opened) (text : List ℕ) (c : ℕ) (front : List ℕ) (b : ℕ) (more : List ℕ) → IsTextOf o text
+    → is_closing o c ≡ true → guarded o text c ≡ front ++ b ∷ more → Told front None
+told_part o text c front b more t h e =
+    told_begun front (closed o text c) b more (subst (λ x. Spelled (closed o text c) x) e (spelled_closed o text c t h))
 
 closes_all : (o : Opened) → is_closing o 3 ≡ true
 closes_all opens.Header = refl
@@ -135,8 +147,10 @@ least_text opens.Header = record { some = omega arith; fits = omega arith; bytes
 least_text opens.Block = record { some = omega arith; fits = omega arith; bytes = (let a = a_byte in grind (arith, nat_tests)) }
 
 -- of a text that goes on
-pub told_so_far : (o : Opened) (text : List ℕ) → length text ≤ most_text o → list_all is_text text ≡ true → Told (16 ∷ opening o ∷ (text ++ [])) None
-told_so_far o [] fits all = told_part o (32 ∷ []) 3 (16 ∷ opening o ∷ []) 32 (16 ∷ 3 ∷ low_check (32 ∷ []) 3 ∷ high_check (32 ∷ []) 3 ∷ []) (least_text o) (closes_all o) refl
+pub told_so_far : (o : Opened) (text : List ℕ) → length text ≤ most_text o → list_all is_text text ≡ true
+    → Told (16 ∷ opening o ∷ (text ++ [])) None
+told_so_far o [] fits all =
+    told_part o (32 ∷ []) 3 (16 ∷ opening o ∷ []) 32 (16 ∷ 3 ∷ low_check (32 ∷ []) 3 ∷ high_check (32 ∷ []) 3 ∷ []) (least_text o) (closes_all o) refl
 told_so_far o (x ∷ text) fits all =
     let t : IsTextOf o (x ∷ text) = record { some = omega arith; fits = fits; bytes = all } in
     told_part o (x ∷ text) 3 (16 ∷ opening o ∷ ((x ∷ text) ++ [])) 16 (3 ∷ low_check (x ∷ text) 3 ∷ high_check (x ∷ text) 3 ∷ []) t (closes_all o)
@@ -149,17 +163,20 @@ told_marked_end o text t =
     (ap (λ r. 16 ∷ opening o ∷ r) (sym (append_assoc text (16 ∷ []) (3 ∷ low_check text 3 ∷ high_check text 3 ∷ []))))
 
 -- of a text with its closing byte
-pub told_closed : (o : Opened) (text : List ℕ) (c : ℕ) → IsTextOf o text → is_closing o c ≡ true → Told (16 ∷ opening o ∷ (text ++ 16 ∷ c ∷ [])) None
+pub told_closed : (o : Opened) (text : List ℕ) (c : ℕ) → IsTextOf o text → is_closing o c ≡ true
+    → Told (16 ∷ opening o ∷ (text ++ 16 ∷ c ∷ [])) None
 told_closed o text c t h =
     told_part o text c (16 ∷ opening o ∷ (text ++ 16 ∷ c ∷ [])) (low_check text c) (high_check text c ∷ []) t h
     (ap (λ r. 16 ∷ opening o ∷ r) (sym (append_assoc text (16 ∷ c ∷ []) (low_check text c ∷ high_check text c ∷ []))))
 
 -- a text between its marks with another check behind it
-pub spelled_damaged : (o : Opened) (text : List ℕ) (c low high : ℕ) → IsTextOf o text → is_closing o c ≡ true → ((low ≡ low_check text c) × (high ≡ high_check text c) → ⊥) → Spelled Damaged (wrapped o text c low high)
+pub spelled_damaged : (o : Opened) (text : List ℕ) (c low high : ℕ) → IsTextOf o text → is_closing o c ≡ true
+    → ((low ≡ low_check text c) × (high ≡ high_check text c) → ⊥) → Spelled Damaged (wrapped o text c low high)
 spelled_damaged o text c low high t h d = record { opened = o; text = text; closing = c; low = low; high = high; fits = t; closes = h; differs = d; spelled = refl }
 
 -- of the same with some byte for the low one of the check
-pub told_low : (o : Opened) (text : List ℕ) (c low : ℕ) → IsTextOf o text → is_closing o c ≡ true → Told (16 ∷ opening o ∷ (text ++ 16 ∷ c ∷ low ∷ [])) None
+pub told_low : (o : Opened) (text : List ℕ) (c low : ℕ) → IsTextOf o text → is_closing o c ≡ true
+    → Told (16 ∷ opening o ∷ (text ++ 16 ∷ c ∷ low ∷ [])) None
 told_low o text c low t h =
     elim (cases_eq low (low_check text c)) [
       | inl same ↦ told_part o text c (16 ∷ opening o ∷ (text ++ 16 ∷ c ∷ low ∷ [])) (high_check text c) [] t h
@@ -171,7 +188,8 @@ told_low o text c low t h =
     ]
 
 -- a text between its marks is spelled as its check says
-spelled_checked : (o : Opened) (text : List ℕ) (c low high : ℕ) → IsTextOf o text → is_closing o c ≡ true → Spelled (checked o text c low high) (wrapped o text c low high)
+spelled_checked : (o : Opened) (text : List ℕ) (c low high : ℕ) → IsTextOf o text → is_closing o c ≡ true
+    → Spelled (checked o text c low high) (wrapped o text c low high)
 spelled_checked o text c low high t h =
     elim (cases_eq low (low_check text c)) [
       | inl one ↦ elim (cases_eq high (high_check text c)) [
@@ -189,7 +207,8 @@ spelled_checked o text c low high t h =
     ]
 
 -- behind the closing byte
-told_check : (o : Opened) (text : List ℕ) (c : ℕ) (rest : List ℕ) → IsTextOf o text → is_closing o c ≡ true → Told (16 ∷ opening o ∷ (text ++ 16 ∷ c ∷ rest)) (judge_check o text c rest)
+told_check : (o : Opened) (text : List ℕ) (c : ℕ) (rest : List ℕ) → IsTextOf o text → is_closing o c ≡ true
+    → Told (16 ∷ opening o ∷ (text ++ 16 ∷ c ∷ rest)) (judge_check o text c rest)
 told_check o text c [] t h = told_closed o text c t h
 told_check o text c (low ∷ []) t h = told_low o text c low t h
 told_check o text c (low ∷ high ∷ more) t h =
@@ -197,7 +216,8 @@ told_check o text c (low ∷ high ∷ more) t h =
     (told_ends (checked o text c low high) (wrapped o text c low high) more (spelled_checked o text c low high t h))
 
 -- behind the DLE after a text
-told_closing : (o : Opened) (text rest : List ℕ) → IsTextOf o text → Told (16 ∷ opening o ∷ (text ++ 16 ∷ rest)) (judge_closing o text rest)
+told_closing : (o : Opened) (text rest : List ℕ) → IsTextOf o text
+    → Told (16 ∷ opening o ∷ (text ++ 16 ∷ rest)) (judge_closing o text rest)
 told_closing o text [] t = told_marked_end o text t
 told_closing o text (c ∷ more) t =
     told_if (16 ∷ opening o ∷ (text ++ 16 ∷ c ∷ more)) (is_closing o c) (judge_check o text c more) (Some Bad)
@@ -207,7 +227,8 @@ is_mark : (b : ℕ) (text : List ℕ) → (b == 16 && nat_lt 0 (length text)) �
 is_mark b text h = (grind (arith, nat_tests), grind (arith, nat_tests))
 
 -- behind so much text
-pub told_text : (o : Opened) (text rest : List ℕ) → length text ≤ most_text o → list_all is_text text ≡ true → Told (16 ∷ opening o ∷ (text ++ rest)) (judge_text o text rest)
+pub told_text : (o : Opened) (text rest : List ℕ) → length text ≤ most_text o → list_all is_text text ≡ true
+    → Told (16 ∷ opening o ∷ (text ++ rest)) (judge_text o text rest)
 told_text o text [] fits all = told_so_far o text fits all
 told_text o text (b ∷ more) fits all =
     let bytes : List ℕ = 16 ∷ opening o ∷ (text ++ b ∷ more) in

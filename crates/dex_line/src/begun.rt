@@ -41,7 +41,8 @@ impl Begun {
     pub(crate) fn push(&mut self, byte: u8) -> Option<Frame>
         requires { IsSound self.old.stage self.old.text.items self.old.check }
         ensures answer { answer_seen result ≡ judged_at self.old.stage self.old.text.items byte }
-        ensures left { begun self.new.stage self.new.text.items ≡ kept result (begun_with self.old.stage self.old.text.items byte) }
+        ensures left { begun self.new.stage self.new.text.items
+            ≡ kept result (begun_with self.old.stage self.old.text.items byte) }
         ensures sound { IsSound self.new.stage self.new.text.items self.new.check }
     {
         match self.stage {
@@ -59,7 +60,8 @@ impl Begun {
     pub(crate) fn take_text(&mut self, bytes: &[u8]) -> usize
         requires { IsSound self.old.stage self.old.text.items self.old.check }
         ensures inside { result ≤ length bytes.now }
-        ensures left { begun self.new.stage self.new.text.items ≡ begun self.old.stage self.old.text.items ++ take result bytes.now }
+        ensures left { begun self.new.stage self.new.text.items
+            ≡ begun self.old.stage self.old.text.items ++ take result bytes.now }
         ensures sound { IsSound self.new.stage self.new.text.items self.new.check }
     {
         match self.stage {
@@ -114,8 +116,10 @@ impl Begun {
     #[tactic(auto, using(crate::proofs::Judged::text_grows, crate::proofs::Judged::text_whole, crate::proofs::Judged::not_text))]
     fn take(&mut self, opened: Opened, byte: u8) -> Option<Frame>
         requires { IsSound (Stage.Text opened) self.old.text.items self.old.check }
-        ensures answer { answer_seen result ≡ judged_at (Stage.Text opened) self.old.text.items byte }
-        ensures left { begun self.new.stage self.new.text.items ≡ kept result (begun_with (Stage.Text opened) self.old.text.items byte) }
+        ensures answer { answer_seen result
+            ≡ judged_at (Stage.Text opened) self.old.text.items byte }
+        ensures left { begun self.new.stage self.new.text.items
+            ≡ kept result (begun_with (Stage.Text opened) self.old.text.items byte) }
         ensures sound { IsSound self.new.stage self.new.text.items self.new.check }
     {
         if is_text_byte(byte) {
@@ -133,8 +137,10 @@ impl Begun {
     #[tactic(auto, using(crate::proofs::Judged::closes))]
     fn close(&mut self, opened: Opened, byte: u8) -> Option<Frame>
         requires { IsSound (Stage.Closing opened) self.old.text.items self.old.check }
-        ensures answer { answer_seen result ≡ judged_at (Stage.Closing opened) self.old.text.items byte }
-        ensures left { begun self.new.stage self.new.text.items ≡ kept result (begun_with (Stage.Closing opened) self.old.text.items byte) }
+        ensures answer { answer_seen result
+            ≡ judged_at (Stage.Closing opened) self.old.text.items byte }
+        ensures left { begun self.new.stage self.new.text.items
+            ≡ kept result (begun_with (Stage.Closing opened) self.old.text.items byte) }
         ensures sound { IsSound self.new.stage self.new.text.items self.new.check }
     {
         if opened.is_closed_by(byte) {
@@ -146,8 +152,10 @@ impl Begun {
 
     fn take_low(&mut self, opened: Opened, closing: u8, byte: u8) -> Option<Frame>
         requires { IsSound (Stage.Check opened closing) self.old.text.items self.old.check }
-        ensures answer { answer_seen result ≡ judged_at (Stage.Check opened closing) self.old.text.items byte }
-        ensures left { begun self.new.stage self.new.text.items ≡ kept result (begun_with (Stage.Check opened closing) self.old.text.items byte) }
+        ensures answer { answer_seen result
+            ≡ judged_at (Stage.Check opened closing) self.old.text.items byte }
+        ensures left { begun self.new.stage self.new.text.items
+            ≡ kept result (begun_with (Stage.Check opened closing) self.old.text.items byte) }
         ensures sound { IsSound self.new.stage self.new.text.items self.new.check }
     {
         self.go(Stage::Low(opened, closing, byte))
@@ -155,8 +163,10 @@ impl Begun {
 
     fn take_high(&mut self, opened: Opened, closing: u8, low: u8, byte: u8) -> Option<Frame>
         requires { IsSound (Stage.Low opened closing low) self.old.text.items self.old.check }
-        ensures answer { answer_seen result ≡ judged_at (Stage.Low opened closing low) self.old.text.items byte }
-        ensures left { begun self.new.stage self.new.text.items ≡ kept result (begun_with (Stage.Low opened closing low) self.old.text.items byte) }
+        ensures answer { answer_seen result
+            ≡ judged_at (Stage.Low opened closing low) self.old.text.items byte }
+        ensures left { begun self.new.stage self.new.text.items
+            ≡ kept result (begun_with (Stage.Low opened closing low) self.old.text.items byte) }
         ensures sound { IsSound self.new.stage self.new.text.items self.new.check }
     {
         let check = self.check.value();
