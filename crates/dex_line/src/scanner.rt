@@ -21,13 +21,13 @@ pub struct Scanner {
 
 impl Model for Scanner {
     ghost use Rattle.std.specs.Prelude.{ℕ, List};
-    ghost use Rattle.dex_line.specs.Scanning.{begun as bytes_begun, IsSound};
+    ghost use Rattle.dex_line.specs.Scanning.{held, IsHeld};
 
     ghost Value = { List ℕ };
 
-    ghost view = { λ scanner. bytes_begun scanner.begun.stage scanner.begun.text.items };
+    ghost view = { λ scanner. held scanner.begun };
 
-    ghost invariant = { λ scanner. IsSound scanner.begun.stage scanner.begun.text.items scanner.begun.check };
+    ghost invariant = { λ scanner. IsHeld scanner.begun };
 }
 
 impl Scanner {
