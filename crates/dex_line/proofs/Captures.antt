@@ -1,12 +1,12 @@
 -- The frames of captured bytes: there is one such list, and it is what a scanner answers.
-use Rattle.std.proofs.Common.{◌≡◌, ◌⊎◌, ℕ, ◌+◌, ◌<◌, ◌≤◌, Bool, true, false, Some, None, Option, List, [], ◌∷◌, ◌++◌, length, take, drop, get_or, refl, sym, ◌∙◌, ap, subst, inl, inr, arith, append_assoc, append-nil, length-append}
+use Rattle.std.proofs.Common.{◌≡◌, ◌⊎◌, ℕ, ◌+◌, ◌≤◌, Bool, true, false, Some, None, Option, List, [], ◌∷◌, ◌++◌, length, take, drop, refl, sym, ◌∙◌, ap, subst, inl, inr, arith, append_assoc, append-nil}
 use Rattle.std.specs.Prelude.{◌≢◌, if◌then◌else◌}
 use Rattle.std.proofs.lemmas.List.{take_all, take-append-drop, length-take-le}
 use Rattle.dex_line.specs.FrameShapes.{FrameShape, Enq, Ack0, Ack1, Nak, Eot, Header, Block, Damaged, Bad}
 use Rattle.dex_line.specs.FrameSpelling.{IsBegun, IsNoFrame, Answers, Spelled, spelling}
 use Rattle.dex_line.specs.Hearing.{IsAnswered, HeardAs, Hearing, hear_all, hearing, nothing_heard}
 use Rattle.dex_line.specs.Scanning.{quieted}
-use Rattle.dex_line.specs.Captured.{BeginsWith, BeginsNone, IsFirstFrame, FramesIn, is_refused, left_behind, with_places, and_quiet, answers_to, frames_from, IsFrameOfSize}
+use Rattle.dex_line.specs.Captured.{BeginsWith, BeginsNone, IsFirstFrame, FramesIn, is_refused, left_behind, with_places, and_quiet, frames_from, IsFrameOfSize}
 use Rattle.dex_line.proofs.Told.{one_frame, no_front, judged_whole}
 use Rattle.dex_line.proofs.Heard.{heard_frames}
 use Rattle.dex_line.proofs.Pieces.{split_bytes, same_rest, same_place}
@@ -14,40 +14,49 @@ use Rattle.dex_line.proofs.Pieces.{split_bytes, same_rest, same_place}
 -- ---- bytes that begin with no frame
 
 -- a spelling is no proper front of another one, however long that is
-past : (a b : FrameShape) (piece after : List ℕ) (x : ℕ) (more : List ℕ) → Spelled a piece → Spelled b ((piece ++ after) ++ x ∷ more) → ⊥
-past a b piece [] x more s t = no_front a b piece x more s (subst (λ l. Spelled b (l ++ x ∷ more)) (append-nil piece) t)
-past a b piece (y ∷ after) x more s t = no_front a b piece y (after ++ x ∷ more) s (subst (λ l. Spelled b l) (append_assoc piece (y ∷ after) (x ∷ more)) t)
+past : (a b : FrameShape) (piece after : List ℕ) (x : ℕ) (more : List ℕ) → Spelled a piece
+    → Spelled b ((piece ++ after) ++ x ∷ more) → ⊥
+past a b piece [] x more s t =
+    no_front a b piece x more s (subst (λ l. Spelled b (l ++ x ∷ more)) (append-nil piece) t)
+past a b piece (y ∷ after) x more s t =
+    no_front a b piece y (after ++ x ∷ more) s (subst (λ l. Spelled b l) (append_assoc piece (y ∷ after) (x ∷ more)) t)
 
 -- what has begun a frame begins with none
 pub begun_none : (bytes : List ℕ) → IsBegun bytes → BeginsNone bytes
-begun_none bytes (next, b, more, s) shape after (piece, t, e) = past shape next piece after b more t (subst (λ l. Spelled next (l ++ b ∷ more)) e s)
+begun_none bytes (next, b, more, s) shape after (piece, t, e) =
+    past shape next piece after b more t (subst (λ l. Spelled next (l ++ b ∷ more)) e s)
 
 -- a spelling that reaches so far as the byte with which there is no frame, or further
-reaches : (front : List ℕ) (last u : ℕ) (r : List ℕ) (shape : FrameShape) → IsNoFrame (front ++ last ∷ []) → last ≡ u → Spelled shape (front ++ u ∷ r) → ⊥
+reaches : (front : List ℕ) (last u : ℕ) (r : List ℕ) (shape : FrameShape) → IsNoFrame (front ++ last ∷ []) → last ≡ u
+    → Spelled shape (front ++ u ∷ r) → ⊥
 reaches front last u [] shape none same t = none.1 shape (subst (λ x. Spelled shape (front ++ x ∷ [])) (sym same) t)
 reaches front last u (z ∷ r) shape none same t =
     let whole : Spelled shape (front ++ last ∷ z ∷ r) = subst (λ x. Spelled shape (front ++ x ∷ z ∷ r)) (sym same) t in
     none.0 (shape, z, r, subst (λ l. Spelled shape l) (sym (append_assoc front (last ∷ []) (z ∷ r))) whole)
 
 -- bytes with which what had begun is no frame begin with none
-pub answered_none : (front : List ℕ) (last : ℕ) (after : List ℕ) → IsBegun front → IsNoFrame (front ++ last ∷ []) → BeginsNone (front ++ last ∷ after)
+pub answered_none : (front : List ℕ) (last : ℕ) (after : List ℕ) → IsBegun front → IsNoFrame (front ++ last ∷ [])
+    → BeginsNone (front ++ last ∷ after)
 answered_none front last after (next, b, more, s) none shape rest (piece, t, e) =
     elim (split_bytes front (last ∷ after) piece rest e) [
       | inl (r, p, q) ↦ past shape next piece r b more t (subst (λ l. Spelled next (l ++ b ∷ more)) p s)
       | inr (u, r, p, q) ↦ let same : last ≡ u = cc in reaches front last u r shape none same (subst (λ l. Spelled shape l) p t)
     ]
 
+-- a list with an element is not empty
 never_empty : (front : List ℕ) (last : ℕ) (after : List ℕ) → front ++ last ∷ after ≡ [] → ⊥
 never_empty [] last after e = cc
 never_empty (x ∷ front) last after e = cc
 
 -- ---- the first frame
 
+-- what has begun at the end of the bytes is bad
 pub first_open : (bytes : List ℕ) → IsBegun bytes → bytes ≢ [] → IsFirstFrame Bad bytes []
 first_open bytes s some = (begun_none bytes s, some, refl)
 
 -- the first piece that is answered is the first frame
-pub first_answered : (shape : FrameShape) (piece after : List ℕ) → IsAnswered shape piece → IsFirstFrame shape (piece ++ after) (left_behind shape after)
+pub first_answered : (shape : FrameShape) (piece after : List ℕ) → IsAnswered shape piece
+    → IsFirstFrame shape (piece ++ after) (left_behind shape after)
 first_answered Enq piece after a = (piece, a.answer, refl)
 first_answered Ack0 piece after a = (piece, a.answer, refl)
 first_answered Ack1 piece after a = (piece, a.answer, refl)
@@ -74,6 +83,7 @@ seen (Block last text) bytes left f = inr (left, f, refl)
 seen Damaged bytes left f = inr (f.0.0, f.0.1, f.1)
 seen Bad bytes left f = inl (refl, f.0, f.1, f.2)
 
+-- no frame is spelled by no bytes
 no_bytes : (shape : FrameShape) (bytes : List ℕ) → bytes ≡ [] → Spelled shape bytes → ⊥
 no_bytes shape bytes none s = let e = judged_whole shape [] (subst (λ l. Spelled shape l) none s) in cc
 
@@ -81,6 +91,7 @@ front_empty : (piece after : List ℕ) → piece ++ after ≡ [] → piece ≡ [
 front_empty [] after e = refl
 front_empty (x ∷ piece) after e = absurd (cc)
 
+-- no frame is first where there are no bytes
 first_some : (shape : FrameShape) (bytes left : List ℕ) → IsFirstFrame shape bytes left → bytes ≡ [] → ⊥
 first_some shape bytes left f none =
     elim (seen shape bytes left f) [
@@ -89,7 +100,8 @@ first_some shape bytes left f none =
     ]
 
 -- there is one first frame
-one_first : (a b : FrameShape) (bytes v w : List ℕ) → IsFirstFrame a bytes v → IsFirstFrame b bytes w → (a ≡ b) × (v ≡ w)
+one_first : (a b : FrameShape) (bytes v w : List ℕ) → IsFirstFrame a bytes v → IsFirstFrame b bytes w
+    → (a ≡ b) × (v ≡ w)
 one_first a b bytes v w f g =
     elim (seen a bytes v f) [
       | inl (bad, none, some, e) ↦ elim (seen b bytes w g) [
@@ -109,7 +121,8 @@ one_first a b bytes v w f g =
 -- ---- all frames
 
 -- there is one list of frames
-pub frames_one : (xs ys : List (ℕ × FrameShape)) (place : ℕ) (bytes : List ℕ) → FramesIn place bytes xs → FramesIn place bytes ys → xs ≡ ys
+pub frames_one : (xs ys : List (ℕ × FrameShape)) (place : ℕ) (bytes : List ℕ) → FramesIn place bytes xs
+    → FramesIn place bytes ys → xs ≡ ys
 frames_one [] [] place bytes f g = refl
 frames_one [] (y ∷ ys) place bytes f (at, left, first, more) = absurd (first_some y.1 bytes left first f)
 frames_one (x ∷ xs) [] place bytes (at, left, first, more) g = absurd (first_some x.1 bytes left first g)
@@ -120,17 +133,22 @@ frames_one ((p, a) ∷ xs) ((q, b) ∷ ys) place bytes (at, v, first, more) (at'
     let places : p ≡ q = at ∙ sym at' in
     cc
 
-and_quiet-cons : (shape : FrameShape) (shapes : List FrameShape) (answer : Option FrameShape) → and_quiet (shape ∷ shapes) answer ≡ shape ∷ and_quiet shapes answer
+-- a silence comes behind all answers
+and_quiet-cons : (shape : FrameShape) (shapes : List FrameShape) (answer : Option FrameShape)
+    → and_quiet (shape ∷ shapes) answer ≡ shape ∷ and_quiet shapes answer
 and_quiet-cons shape shapes None = refl
 and_quiet-cons shape shapes (Some last) = refl
 
 -- a first frame, and those behind it where it is not refused
-pub frames_on : (refused : Bool) (shape : FrameShape) (place : ℕ) (bytes after : List ℕ) (more : List (ℕ × FrameShape)) → IsFirstFrame shape bytes (if refused then [] else after) → FramesIn (place + length (spelling shape)) after more → FramesIn place bytes ((place, shape) ∷ (if refused then [] else more))
+pub frames_on : (refused : Bool) (shape : FrameShape) (place : ℕ) (bytes after : List ℕ) (more : List (ℕ × FrameShape))
+    → IsFirstFrame shape bytes (if refused then [] else after) → FramesIn (place + length (spelling shape)) after more
+    → FramesIn place bytes ((place, shape) ∷ (if refused then [] else more))
 frames_on true shape place bytes after more first on = (refl, [], first, refl)
 frames_on false shape place bytes after more first on = (refl, after, first, on)
 
 -- what is heard, with a silence behind it, is such a list
-frames_heard : (shapes : List FrameShape) (place : ℕ) (bytes rest : List ℕ) → HeardAs bytes shapes rest → FramesIn place bytes (with_places place (and_quiet shapes (quieted rest)))
+frames_heard : (shapes : List FrameShape) (place : ℕ) (bytes rest : List ℕ) → HeardAs bytes shapes rest
+    → FramesIn place bytes (with_places place (and_quiet shapes (quieted rest)))
 frames_heard [] place bytes [] (same, s) = same
 frames_heard [] place bytes (b ∷ rest) (same, s) =
     (refl, [], subst (λ l. IsFirstFrame Bad l []) (sym same) (first_open (b ∷ rest) s (λ e. cc)), refl)
@@ -140,13 +158,18 @@ frames_heard (shape ∷ shapes) place bytes rest (piece, after, a, same, h) =
     subst (λ l. FramesIn place bytes (with_places place l)) (sym (and_quiet-cons shape shapes (quieted rest)))
     (frames_on (is_refused shape) shape place bytes after (with_places (place + length (spelling shape)) (and_quiet shapes (quieted rest))) first on)
 
+-- the frames of a scanner are those of the definition
 pub frames_are : (place : ℕ) (bytes : List ℕ) → FramesIn place bytes (frames_from place bytes)
 unfolding frames_from
-frames_are place bytes = frames_heard (hear_all nothing_heard bytes).shapes place bytes (hear_all nothing_heard bytes).begun (heard_frames bytes)
+frames_are place bytes =
+    frames_heard (hear_all nothing_heard bytes).shapes place bytes (hear_all nothing_heard bytes).begun (heard_frames bytes)
 
-pub frames_only : (place : ℕ) (bytes : List ℕ) (frames : List (ℕ × FrameShape)) → FramesIn place bytes frames → frames ≡ frames_from place bytes
+-- and no other list is
+pub frames_only : (place : ℕ) (bytes : List ℕ) (frames : List (ℕ × FrameShape)) → FramesIn place bytes frames
+    → frames ≡ frames_from place bytes
 frames_only place bytes frames f = frames_one frames (frames_from place bytes) place bytes f (frames_are place bytes)
 
+-- no bytes, no frames
 pub frames_end : (place : ℕ) → frames_from place [] ≡ []
 unfolding frames_from
 frames_end place = refl
@@ -156,15 +179,21 @@ frames_none place bytes none = ap (frames_from place) none ∙ frames_end place
 
 -- ---- one step
 
-frames_step : (place : ℕ) (bytes : List ℕ) (shape : FrameShape) (left : List ℕ) → IsFirstFrame shape bytes left → frames_from place bytes ≡ (place, shape) ∷ frames_from (place + length (spelling shape)) left
-frames_step place bytes shape left first = sym (frames_only place bytes ((place, shape) ∷ frames_from (place + length (spelling shape)) left) (refl, left, first, frames_are (place + length (spelling shape)) left))
+-- the first frame, and those of what is then to be read
+frames_step : (place : ℕ) (bytes : List ℕ) (shape : FrameShape) (left : List ℕ) → IsFirstFrame shape bytes left
+    → frames_from place bytes ≡ (place, shape) ∷ frames_from (place + length (spelling shape)) left
+frames_step place bytes shape left first =
+    sym (frames_only place bytes ((place, shape) ∷ frames_from (place + length (spelling shape)) left) (refl, left, first, frames_are (place + length (spelling shape)) left))
 
 -- where a refused frame was, and how long, does not count behind it
-same_after : (refused : Bool) (p q : ℕ) (after : List ℕ) → (refused ≡ false → p ≡ q) → frames_from p (if refused then [] else after) ≡ frames_from q (if refused then [] else after)
+same_after : (refused : Bool) (p q : ℕ) (after : List ℕ) → (refused ≡ false → p ≡ q)
+    → frames_from p (if refused then [] else after) ≡ frames_from q (if refused then [] else after)
 same_after true p q after same = frames_end p ∙ sym (frames_end q)
 same_after false p q after same = ap (λ n. frames_from n after) (same refl)
 
-pub frames_next : (place size : ℕ) (bytes : List ℕ) (shape : FrameShape) → IsFrameOfSize shape bytes size → frames_from place bytes ≡ (place, shape) ∷ frames_from (place + size) (left_behind shape (drop size bytes))
+-- the same by the number of bytes that the frame took
+pub frames_next : (place size : ℕ) (bytes : List ℕ) (shape : FrameShape) → IsFrameOfSize shape bytes size
+    → frames_from place bytes ≡ (place, shape) ∷ frames_from (place + size) (left_behind shape (drop size bytes))
 frames_next place size bytes shape f =
     let after : List ℕ = drop size bytes in
     frames_step place bytes shape (left_behind shape after) f.first
@@ -173,7 +202,8 @@ frames_next place size bytes shape f =
 -- ---- what a scanner that hears the bytes one after another has found
 
 -- an answer that is not refused is spelled by the bytes
-said_piece : (shape : FrameShape) (piece : List ℕ) → is_refused shape ≡ false → Answers piece (Some shape) → piece ≡ spelling shape
+said_piece : (shape : FrameShape) (piece : List ℕ) → is_refused shape ≡ false → Answers piece (Some shape)
+    → piece ≡ spelling shape
 said_piece Enq piece fine a = a.1
 said_piece Ack0 piece fine a = a.1
 said_piece Ack1 piece fine a = a.1
@@ -185,11 +215,15 @@ said_piece Damaged piece fine a = absurd (cc)
 said_piece Bad piece fine a = absurd (cc)
 
 -- the pieces that were heard
-pieces_of : (bytes begun : List ℕ) (shapes : List FrameShape) → hear_all nothing_heard bytes ≡ hearing begun shapes → HeardAs bytes shapes begun
-pieces_of bytes begun shapes heard = subst (λ (h : Hearing). HeardAs bytes h.shapes h.begun) heard (heard_frames bytes)
+pieces_of : (bytes begun : List ℕ) (shapes : List FrameShape) → hear_all nothing_heard bytes ≡ hearing begun shapes
+    → HeardAs bytes shapes begun
+pieces_of bytes begun shapes heard =
+    subst (λ (h : Hearing). HeardAs bytes h.shapes h.begun) heard (heard_frames bytes)
 
 -- so many bytes were answered by one frame
-pub frame_heard : (bytes begun : List ℕ) (size : ℕ) (shape : FrameShape) → size ≤ length bytes → hear_all nothing_heard (take size bytes) ≡ hearing begun (shape ∷ []) → begun ≡ [] → IsFrameOfSize shape bytes size
+pub frame_heard : (bytes begun : List ℕ) (size : ℕ) (shape : FrameShape) → size ≤ length bytes
+    → hear_all nothing_heard (take size bytes) ≡ hearing begun (shape ∷ []) → begun ≡ []
+    → IsFrameOfSize shape bytes size
 frame_heard bytes begun size shape inside heard none =
     let (piece, after, answered, same, (ends, begins)) = pieces_of (take size bytes) begun (shape ∷ []) heard in
     let whole : take size bytes ≡ piece = same ∙ ap (λ l. piece ++ l) (ends ∙ none) ∙ append-nil piece in
@@ -202,18 +236,22 @@ frame_heard bytes begun size shape inside heard none =
     }
 
 -- all bytes were heard without an answer
-begun_all : (bytes begun : List ℕ) (size : ℕ) → size ≡ length bytes → hear_all nothing_heard (take size bytes) ≡ hearing begun [] → (bytes ≡ begun) × IsBegun begun
+begun_all : (bytes begun : List ℕ) (size : ℕ) → size ≡ length bytes
+    → hear_all nothing_heard (take size bytes) ≡ hearing begun [] → (bytes ≡ begun) × IsBegun begun
 begun_all bytes begun size all heard =
     let pieces = pieces_of (take size bytes) begun [] heard in
     let whole : take size bytes ≡ bytes = take_all size bytes (omega arith) in
     (sym whole ∙ pieces.0, pieces.1)
 
+-- the answer to a silence
 is_bad : (begun : List ℕ) (shape : FrameShape) → Some shape ≡ quieted begun → (shape ≡ Bad) × (begun ≢ [])
 is_bad [] shape e = absurd (cc)
 is_bad (b ∷ begun) shape e = (cc, λ none. cc)
 
 -- and then a silence was heard
-pub open_heard : (bytes begun : List ℕ) (size : ℕ) (shape : FrameShape) → size ≡ length bytes → hear_all nothing_heard (take size bytes) ≡ hearing begun [] → Some shape ≡ quieted begun → IsFrameOfSize shape bytes size
+pub open_heard : (bytes begun : List ℕ) (size : ℕ) (shape : FrameShape) → size ≡ length bytes
+    → hear_all nothing_heard (take size bytes) ≡ hearing begun [] → Some shape ≡ quieted begun
+    → IsFrameOfSize shape bytes size
 open_heard bytes begun size shape all heard quiet =
     let bad = is_bad begun shape quiet in
     let (whole, begins) = begun_all bytes begun size all heard in
@@ -228,5 +266,7 @@ nothing_left : (begun : List ℕ) → None ≡ quieted begun → begun ≡ []
 nothing_left [] quiet = refl
 nothing_left (b ∷ begun) quiet = absurd (cc)
 
-pub none_heard : (bytes begun : List ℕ) (size : ℕ) → size ≡ length bytes → hear_all nothing_heard (take size bytes) ≡ hearing begun [] → None ≡ quieted begun → bytes ≡ []
+-- bytes that had no answer, nor the silence behind them, are none
+pub none_heard : (bytes begun : List ℕ) (size : ℕ) → size ≡ length bytes
+    → hear_all nothing_heard (take size bytes) ≡ hearing begun [] → None ≡ quieted begun → bytes ≡ []
 none_heard bytes begun size all heard quiet = (begun_all bytes begun size all heard).0 ∙ nothing_left begun quiet

@@ -8,6 +8,8 @@ pub mod Pieces
 pub mod Captures
 pub mod Covered
 pub mod UnitCuts
+pub mod Lines
 pub mod Exists
 pub mod Fewest
+pub mod Items
 pub mod Occurrences

@@ -1,13 +1,12 @@
 -- Many bytes at once: what a scanner has begun, and what it hears.
 use Rattle.std.proofs.Common.{◌≡◌, ℕ, ◌+◌, ◌-◌, ◌<◌, ◌≤◌, List, [], ◌∷◌, ◌++◌, length, take, drop, get_or, Some, None, Option, refl, sym, ◌∙◌, ap, subst, arith, append-nil, take-take, false}
 use Rattle.std.specs.Prelude.{is_some}
-use Rattle.std.specs.List.{fold}
 use Rattle.std.proofs.lemmas.List.{take_more, take-append-drop, drop-take}
 use Rattle.std.proofs.lemmas.List.Sums.{fold-append}
 use Rattle.dex_line.specs.Bytes.{dle}
-use Rattle.dex_line.specs.FrameShapes.{FrameShape, Ack0, answer_seen, frame_seen, shapes_seen}
+use Rattle.dex_line.specs.FrameShapes.{Ack0, answer_seen, frame_seen, shapes_seen}
 use Rattle.dex_line.specs.FrameSpelling.{opening, IsBegun}
-use Rattle.dex_line.specs.Hearing.{Hearing, after_answer, hear, hear_all, hearing}
+use Rattle.dex_line.specs.Hearing.{after_answer, hear, hear_all, hearing}
 use Rattle.dex_line.specs.Judging.{judge}
 use Rattle.dex_line.specs.Scanning.{begun, kept, IsSound}
 use Rattle.dex_line.specs.declared.frame.Frame.{Frame}
@@ -21,37 +20,54 @@ pub sound_begun : (stage : Stage) (text : List ℕ) (check : ℕ) → IsSound st
 unfolding Told
 sound_begun Idle text check s = nothing_begun
 sound_begun Marked text check s = told_begun (dle ∷ []) Ack0 0x30 [] (tt, refl)
-sound_begun (Text o) text check s = subst (λ l. IsBegun (dle ∷ opening o ∷ l)) (append-nil text) (told_so_far o text s.fits s.bytes)
+sound_begun (Text o) text check s =
+    subst (λ l. IsBegun (dle ∷ opening o ∷ l)) (append-nil text) (told_so_far o text s.fits s.bytes)
 sound_begun (Closing o) text check s = told_marked_end o text s.0
 sound_begun (Check o c) text check s = told_closed o text c s.whole s.closes
 sound_begun (Low o c low) text check s = told_low o text c low s.whole s.closes
 
 -- a further piece of the bytes
-further : (place next : ℕ) (bytes : List ℕ) → place ≤ next → take next bytes ≡ take place bytes ++ take (next - place) (drop place bytes)
+further : (place next : ℕ) (bytes : List ℕ) → place ≤ next
+    → take next bytes ≡ take place bytes ++ take (next - place) (drop place bytes)
 further place next bytes on =
     let split : take place (take next bytes) ≡ take place bytes = take-take place next bytes on in
     let n : next ≡ place + (next - place) = omega arith in
     sym (take-append-drop place (take next bytes)) ∙ ap (λ l. l ++ drop place (take next bytes)) split
-    ∙ ap (λ m. take place bytes ++ drop place (take m bytes)) n ∙ ap (λ l. take place bytes ++ l) (drop-take place (next - place) bytes)
+    ∙ ap (λ m. take place bytes ++ drop place (take m bytes)) n
+    ∙ ap (λ l. take place bytes ++ l) (drop-take place (next - place) bytes)
 
 -- text is heard without an answer
-pub text_heard : (start bytes old new : List ℕ) (place next : ℕ) → place ≤ next → hear_all (hearing start []) (take place bytes) ≡ hearing old [] → new ≡ old ++ take (next - place) (drop place bytes) → IsBegun new → hear_all (hearing start []) (take next bytes) ≡ hearing new []
+pub text_heard : (start bytes old new : List ℕ) (place next : ℕ) → place ≤ next
+    → hear_all (hearing start []) (take place bytes) ≡ hearing old []
+    → new ≡ old ++ take (next - place) (drop place bytes) → IsBegun new
+    → hear_all (hearing start []) (take next bytes) ≡ hearing new []
 text_heard start bytes old new place next on heard grows begins =
     let piece : List ℕ = take (next - place) (drop place bytes) in
-    ap (hear_all (hearing start [])) (further place next bytes on) ∙ fold-append hear (hearing start []) (take place bytes) piece
-    ∙ ap (λ h. hear_all h piece) heard ∙ begun_heard old piece [] (subst (λ l. IsBegun l) grows begins) ∙ ap (λ l. hearing l []) (sym grows)
+    ap (hear_all (hearing start [])) (further place next bytes on)
+    ∙ fold-append hear (hearing start []) (take place bytes) piece
+    ∙ ap (λ h. hear_all h piece) heard ∙ begun_heard old piece [] (subst (λ l. IsBegun l) grows begins)
+    ∙ ap (λ l. hearing l []) (sym grows)
 
+-- no answer is no frame
 pub none_seen : (answer : Option Frame) → is_some answer ≡ false → shapes_seen answer ≡ []
 none_seen None none = refl
 none_seen (Some frame) none = absurd (cc)
 
-step_heard : (bytes new : List ℕ) (answer : Option Frame) → answer_seen answer ≡ judge bytes → new ≡ kept answer bytes → after_answer [] bytes (judge bytes) ≡ hearing new (shapes_seen answer)
+-- what one push leaves is what is heard
+step_heard : (bytes new : List ℕ) (answer : Option Frame) → answer_seen answer ≡ judge bytes → new ≡ kept answer bytes
+    → after_answer [] bytes (judge bytes) ≡ hearing new (shapes_seen answer)
 step_heard bytes new None told left = ap (after_answer [] bytes) (sym told) ∙ ap (λ b. hearing b []) (sym left)
-step_heard bytes new (Some frame) told left = ap (after_answer [] bytes) (sym told) ∙ ap (λ b. hearing b (frame_seen frame ∷ [])) (sym left)
+step_heard bytes new (Some frame) told left =
+    ap (after_answer [] bytes) (sym told) ∙ ap (λ b. hearing b (frame_seen frame ∷ [])) (sym left)
 
 -- a byte is heard with its answer
-pub byte_heard : (start bytes old new : List ℕ) (place : ℕ) (answer : Option Frame) → place < length bytes → hear_all (hearing start []) (take place bytes) ≡ hearing old [] → answer_seen answer ≡ judge (old ++ get_or bytes place 0 ∷ []) → new ≡ kept answer (old ++ get_or bytes place 0 ∷ []) → hear_all (hearing start []) (take (place + 1) bytes) ≡ hearing new (shapes_seen answer)
+pub byte_heard : (start bytes old new : List ℕ) (place : ℕ) (answer : Option Frame) → place < length bytes
+    → hear_all (hearing start []) (take place bytes) ≡ hearing old []
+    → answer_seen answer ≡ judge (old ++ get_or bytes place 0 ∷ [])
+    → new ≡ kept answer (old ++ get_or bytes place 0 ∷ [])
+    → hear_all (hearing start []) (take (place + 1) bytes) ≡ hearing new (shapes_seen answer)
 byte_heard start bytes old new place answer inside heard told left =
     let b : ℕ = get_or bytes place 0 in
-    ap (hear_all (hearing start [])) (take_more bytes place 0 inside) ∙ fold-append hear (hearing start []) (take place bytes) (b ∷ [])
+    ap (hear_all (hearing start [])) (take_more bytes place 0 inside)
+    ∙ fold-append hear (hearing start []) (take place bytes) (b ∷ [])
     ∙ ap (λ h. hear h b) heard ∙ step_heard (old ++ b ∷ []) new answer told left

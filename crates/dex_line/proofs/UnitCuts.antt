@@ -4,29 +4,39 @@ use Rattle.std.specs.Prelude.{if◌then◌else◌}
 use Rattle.std.specs.List.{concat, onto_first}
 use Rattle.std.proofs.lemmas.Bool.{cases_eq}
 use Rattle.std.proofs.lemmas.Bool.Decides.{nat_tests}
-use Rattle.std.proofs.lemmas.List.{take-append-drop, length-take}
+use Rattle.std.proofs.lemmas.List.{take-append-drop, length-take-le}
+use Rattle.std.proofs.Math.Seq.{take-length, drop-length, take-append-add, drop-append-add, take-append_seam, drop-append_seam}
 use Rattle.dex_line.specs.TextUnits.{is_feed, lines_of, paired, units_of, is_trailer, is_set_end, EachFits, UnitsFit}
 use Rattle.dex_line.specs.BlockCut.{IsFull, Fills, IsFirstBlock}
 use Rattle.dex_line.specs.declared.cutter.TheConstants.{BLOCK_WRITTEN}
 
+-- a cut in two
 pub join_back : (n : ℕ) (l : List ℕ) → l ≡ take n l ++ drop n l
 join_back n l = sym (take-append-drop n l)
 
-tail_some : (b : ℕ) (text : List ℕ) (p : ℕ) → (b ≡ 10 → ⊥) → position is_feed (b ∷ text) ≡ Some p → (q : ℕ) × (p ≡ q + 1) × (position is_feed text ≡ Some q)
+-- where the first LF is behind another byte
+tail_some : (b : ℕ) (text : List ℕ) (p : ℕ) → (b ≡ 10 → ⊥) → position is_feed (b ∷ text) ≡ Some p
+    → (q : ℕ) × (p ≡ q + 1) × (position is_feed text ≡ Some q)
 tail_some b text zero other h = absurd (grind (arith, nat_tests))
 tail_some b text (suc q) other h = (q, omega arith, grind (arith, nat_tests))
 
-tail_none : (b : ℕ) (text : List ℕ) → position is_feed (b ∷ text) ≡ None → (b ≡ 10 → ⊥) × (position is_feed text ≡ None)
-tail_none b text h = elim (cases_eq b 10) [ inl same ↦ absurd (grind (arith, nat_tests)) | inr other ↦ (other, grind (arith, nat_tests)) ]
+-- where there is none
+pub tail_none : (b : ℕ) (text : List ℕ) → position is_feed (b ∷ text) ≡ None
+    → (b ≡ 10 → ⊥) × (position is_feed text ≡ None)
+tail_none b text h =
+    elim (cases_eq b 10) [ inl same ↦ absurd (grind (arith, nat_tests)) | inr other ↦ (other, grind (arith, nat_tests)) ]
 
 feed_here : (text : List ℕ) (p : ℕ) → position is_feed (10 ∷ text) ≡ Some p → p ≡ 0
 feed_here text p h = grind (arith, nat_tests)
 
-lines_other : (b : ℕ) (text : List ℕ) → (b ≡ 10 → ⊥) → lines_of (b ∷ text) ≡ onto_first b (lines_of text)
+-- a byte that is no LF goes on the first line
+pub lines_other : (b : ℕ) (text : List ℕ) → (b ≡ 10 → ⊥) → lines_of (b ∷ text) ≡ onto_first b (lines_of text)
 unfolding lines_of
 lines_other b text other = grind (arith, nat_tests)
 
-pub lines_feed : (text : List ℕ) (p : ℕ) → position is_feed text ≡ Some p → lines_of text ≡ take (p + 1) text ∷ lines_of (drop (p + 1) text)
+-- the first line ends with the first LF
+pub lines_feed : (text : List ℕ) (p : ℕ) → position is_feed text ≡ Some p
+    → lines_of text ≡ take (p + 1) text ∷ lines_of (drop (p + 1) text)
 unfolding lines_of
 lines_feed [] p h = absurd (cc)
 lines_feed (b ∷ text) p h =
@@ -41,6 +51,7 @@ lines_feed (b ∷ text) p h =
           lines_other b text other ∙ ap (onto_first b) e ∙ ap (λ n. take n (b ∷ text) ∷ lines_of (drop n (b ∷ text))) (sym s)
     ]
 
+-- a text without an LF is one line
 pub lines_last : (text : List ℕ) → position is_feed text ≡ None → 0 < length text → lines_of text ≡ text ∷ []
 unfolding lines_of
 lines_last [] h some = absurd (omega arith)
@@ -53,16 +64,12 @@ pub no_lines : lines_of [] ≡ []
 unfolding lines_of
 no_lines = refl
 
-take_all : (l : List ℕ) → take (length l) l ≡ l
-take_all [] = refl
-take_all (x ∷ l) = ap (λ t. x ∷ t) (take_all l)
-
-drop_all : (l : List ℕ) → drop (length l) l ≡ []
-drop_all [] = refl
-drop_all (x ∷ l) = drop_all l
-
-pub lines_rest : (text : List ℕ) → position is_feed text ≡ None → 0 < length text → lines_of text ≡ take (length text) text ∷ lines_of (drop (length text) text)
-lines_rest text h some = lines_last text h some ∙ ap (λ t. t ∷ []) (sym (take_all text)) ∙ ap (λ l. take (length text) text ∷ l) (sym (ap lines_of (drop_all text) ∙ no_lines))
+-- and so it is with nothing behind it
+pub lines_rest : (text : List ℕ) → position is_feed text ≡ None → 0 < length text
+    → lines_of text ≡ take (length text) text ∷ lines_of (drop (length text) text)
+lines_rest text h some =
+    lines_last text h some ∙ ap (λ t. t ∷ []) (sym (take-length text))
+    ∙ ap (λ l. take (length text) text ∷ l) (sym (ap lines_of (drop-length text) ∙ no_lines))
 
 pub no_units : units_of [] ≡ []
 unfolding lines_of units_of paired
@@ -70,6 +77,7 @@ no_units = refl
 
 -- ---- the first unit
 
+-- two tests of which one fails
 if_and : (s t : Bool) (x y : List (List ℕ)) → t ≡ false → (if s && t then x else y) ≡ y
 if_and true t x y h = ap (λ b. if b then x else y) h
 if_and false t x y h = refl
@@ -77,39 +85,58 @@ if_and false t x y h = refl
 if_both : (s t : Bool) (x y : List (List ℕ)) → s ≡ true → t ≡ true → (if s && t then x else y) ≡ x
 if_both s t x y h k = ap (λ b. if b && t then x else y) h ∙ ap (λ b. if b then x else y) k
 
-alone_of : (line : List ℕ) (lines : List (List ℕ)) → is_trailer line ≡ false → paired (line ∷ lines) ≡ line ∷ paired lines
+-- a line that is no G85 is a unit
+alone_of : (line : List ℕ) (lines : List (List ℕ)) → is_trailer line ≡ false
+    → paired (line ∷ lines) ≡ line ∷ paired lines
 unfolding paired
 alone_of line [] fails = refl
-alone_of line (q ∷ more) fails = ap (λ t. if t && is_set_end q then (line ++ q) ∷ paired more else line ∷ paired (q ∷ more)) fails
+alone_of line (q ∷ more) fails =
+    ap (λ t. if t && is_set_end q then (line ++ q) ∷ paired more else line ∷ paired (q ∷ more)) fails
 
-before_of : (line second : List ℕ) (more : List (List ℕ)) → is_set_end second ≡ false → paired (line ∷ second ∷ more) ≡ line ∷ paired (second ∷ more)
+-- a line with no SE behind it is a unit
+before_of : (line second : List ℕ) (more : List (List ℕ)) → is_set_end second ≡ false
+    → paired (line ∷ second ∷ more) ≡ line ∷ paired (second ∷ more)
 unfolding paired
-before_of line second more fails = if_and (is_trailer line) (is_set_end second) ((line ++ second) ∷ paired more) (line ∷ paired (second ∷ more)) fails
+before_of line second more fails =
+    if_and (is_trailer line) (is_set_end second) ((line ++ second) ∷ paired more) (line ∷ paired (second ∷ more)) fails
 
-pair_of : (line second : List ℕ) (more : List (List ℕ)) → is_trailer line ≡ true → is_set_end second ≡ true → paired (line ∷ second ∷ more) ≡ (line ++ second) ∷ paired more
+-- a G85 and the SE behind it are one unit
+pair_of : (line second : List ℕ) (more : List (List ℕ)) → is_trailer line ≡ true → is_set_end second ≡ true
+    → paired (line ∷ second ∷ more) ≡ (line ++ second) ∷ paired more
 unfolding paired
-pair_of line second more passes too = if_both (is_trailer line) (is_set_end second) ((line ++ second) ∷ paired more) (line ∷ paired (second ∷ more)) passes too
+pair_of line second more passes too =
+    if_both (is_trailer line) (is_set_end second) ((line ++ second) ∷ paired more) (line ∷ paired (second ∷ more)) passes too
 
-pub unit_alone : (text line after : List ℕ) → lines_of text ≡ line ∷ lines_of after → is_trailer line ≡ false → units_of text ≡ line ∷ units_of after
+-- the same of a text
+pub unit_alone : (text line after : List ℕ) → lines_of text ≡ line ∷ lines_of after → is_trailer line ≡ false
+    → units_of text ≡ line ∷ units_of after
 unfolding units_of
 unit_alone text line after e fails = ap paired e ∙ alone_of line (lines_of after) fails
 
-pub unit_end : (text line after : List ℕ) → lines_of text ≡ line ∷ lines_of after → length after ≡ 0 → units_of text ≡ line ∷ units_of after
+-- the last line is a unit
+pub unit_end : (text line after : List ℕ) → lines_of text ≡ line ∷ lines_of after → length after ≡ 0
+    → units_of text ≡ line ∷ units_of after
 unfolding units_of lines_of paired
 unit_end text line [] e none = ap paired e
 unit_end text line (b ∷ after) e none = absurd (omega arith)
 
-pub unit_before : (text line after second more : List ℕ) → lines_of text ≡ line ∷ lines_of after → lines_of after ≡ second ∷ lines_of more → is_set_end second ≡ false → units_of text ≡ line ∷ units_of after
+pub unit_before : (text line after second more : List ℕ) → lines_of text ≡ line ∷ lines_of after
+    → lines_of after ≡ second ∷ lines_of more → is_set_end second ≡ false → units_of text ≡ line ∷ units_of after
 unfolding units_of paired
 unit_before text line after second more e f fails =
-    ap paired e ∙ ap (λ l. paired (line ∷ l)) f ∙ before_of line second (lines_of more) fails ∙ ap (λ l. line ∷ paired l) (sym f)
+    ap paired e ∙ ap (λ l. paired (line ∷ l)) f ∙ before_of line second (lines_of more) fails
+    ∙ ap (λ l. line ∷ paired l) (sym f)
 
-pub unit_pair : (text line after second more : List ℕ) → lines_of text ≡ line ∷ lines_of after → lines_of after ≡ second ∷ lines_of more → is_trailer line ≡ true → is_set_end second ≡ true → units_of text ≡ (line ++ second) ∷ units_of more
+pub unit_pair : (text line after second more : List ℕ) → lines_of text ≡ line ∷ lines_of after
+    → lines_of after ≡ second ∷ lines_of more → is_trailer line ≡ true → is_set_end second ≡ true
+    → units_of text ≡ (line ++ second) ∷ units_of more
 unfolding units_of paired
-unit_pair text line after second more e f passes too = ap paired e ∙ ap (λ l. paired (line ∷ l)) f ∙ pair_of line second (lines_of more) passes too
+unit_pair text line after second more e f passes too =
+    ap paired e ∙ ap (λ l. paired (line ∷ l)) f ∙ pair_of line second (lines_of more) passes too
 
 -- ---- filling
 
+-- no bytes fill the room where the first unit does not fit
 fills_none : (text : List ℕ) (room : ℕ) → IsFull room 0 (units_of text) → Fills text room 0
 fills_none text room full = record { units = []; front = refl; cut = refl; inside = omega arith; fits = omega arith; full = full }
 
@@ -117,27 +144,25 @@ pub fills_empty : (text : List ℕ) (room : ℕ) → length text ≡ 0 → Fills
 fills_empty [] room h = fills_none [] room (subst (λ u. IsFull room 0 u) (sym no_units) tt)
 fills_empty (b ∷ text) room h = absurd (omega arith)
 
-pub fills_nothing : (text unit after : List ℕ) (room : ℕ) → units_of text ≡ unit ∷ units_of after → room < length unit → Fills text room 0
+pub fills_nothing : (text unit after : List ℕ) (room : ℕ) → units_of text ≡ unit ∷ units_of after → room < length unit
+    → Fills text room 0
 fills_nothing text unit after room first big =
     let full : IsFull room 0 (unit ∷ units_of after) = omega arith in
     fills_none text room (subst (λ u. IsFull room 0 u) (sym first) full)
 
-full_on : (room size more : ℕ) (units : List (List ℕ)) → size ≤ room → IsFull (room - size) more units → IsFull room (size + more) units
+-- what was full with less room before it
+full_on : (room size more : ℕ) (units : List (List ℕ)) → size ≤ room → IsFull (room - size) more units
+    → IsFull room (size + more) units
 full_on room size more [] fits full = tt
 full_on room size more (u ∷ units) fits full = omega arith
 
-take_past : (a b : List ℕ) (n : ℕ) → take (length a + n) (a ++ b) ≡ a ++ take n b
-take_past [] b n = ap (λ k. take k b) (let e : 0 + n ≡ n = omega arith in e)
-take_past (x ∷ a) b n = let e : length (x ∷ a) + n ≡ suc (length a + n) = omega arith in ap (λ k. take k (x ∷ (a ++ b))) e ∙ ap (λ l. x ∷ l) (take_past a b n)
-
-drop_past : (a b : List ℕ) (n : ℕ) → drop (length a + n) (a ++ b) ≡ drop n b
-drop_past [] b n = ap (λ k. drop k b) (let e : 0 + n ≡ n = omega arith in e)
-drop_past (x ∷ a) b n = let e : length (x ∷ a) + n ≡ suc (length a + n) = omega arith in ap (λ k. drop k (x ∷ (a ++ b))) e ∙ drop_past a b n
-
-pub fills_more : (text unit after : List ℕ) (room size : ℕ) → units_of text ≡ unit ∷ units_of after → text ≡ unit ++ after → length unit ≤ room → Fills after (room - length unit) size → Fills text room (length unit + size)
+-- one unit more in front
+pub fills_more : (text unit after : List ℕ) (room size : ℕ) → units_of text ≡ unit ∷ units_of after
+    → text ≡ unit ++ after → length unit ≤ room → Fills after (room - length unit) size
+    → Fills text room (length unit + size)
 fills_more text unit after room size first joined fits f =
-    let t : take (length unit + size) text ≡ unit ++ take size after = ap (take (length unit + size)) joined ∙ take_past unit after size in
-    let d : drop (length unit + size) text ≡ drop size after = ap (drop (length unit + size)) joined ∙ drop_past unit after size in
+    let t : take (length unit + size) text ≡ unit ++ take size after = ap (take (length unit + size)) joined ∙ take-append-add unit after size in
+    let d : drop (length unit + size) text ≡ drop size after = ap (drop (length unit + size)) joined ∙ drop-append-add unit after size in
     let l = ap length joined in
     let s = f.inside in
     let r = f.fits in
@@ -150,37 +175,35 @@ fills_more text unit after room size first joined fits f =
       full = subst (λ x. IsFull room (length unit + size) (units_of x)) (sym d) (full_on room (length unit) size (units_of (drop size after)) fits f.full);
     }
 
-take_exact : (a b : List ℕ) → take (length a) (a ++ b) ≡ a
-take_exact [] b = refl
-take_exact (x ∷ a) b = ap (λ l. x ∷ l) (take_exact a b)
-
-drop_exact : (a b : List ℕ) → drop (length a) (a ++ b) ≡ b
-drop_exact [] b = refl
-drop_exact (x ∷ a) b = drop_exact a b
-
 -- a G85 and the SE behind it, cut off at once
-pub pair_cut : (text line after second more : List ℕ) → lines_of text ≡ line ∷ lines_of after → lines_of after ≡ second ∷ lines_of more → text ≡ line ++ after → after ≡ second ++ more → is_trailer line ≡ true → is_set_end second ≡ true
+pub pair_cut : (text line after second more : List ℕ) → lines_of text ≡ line ∷ lines_of after
+    → lines_of after ≡ second ∷ lines_of more → text ≡ line ++ after → after ≡ second ++ more → is_trailer line ≡ true
+    → is_set_end second ≡ true
     → units_of text ≡ take (length line + length second) text ∷ units_of (drop (length line + length second) text)
 pair_cut text line after second more e f j k passes too =
     let n : ℕ = length line + length second in
     let whole : text ≡ line ++ (second ++ more) = j ∙ ap (λ x. line ++ x) k in
-    let t : take n text ≡ line ++ second = ap (take n) whole ∙ take_past line (second ++ more) (length second) ∙ ap (λ x. line ++ x) (take_exact second more) in
-    let d : drop n text ≡ more = ap (drop n) whole ∙ drop_past line (second ++ more) (length second) ∙ drop_exact second more in
-    unit_pair text line after second more e f passes too ∙ ap (λ u. u ∷ units_of more) (sym t) ∙ ap (λ x. take n text ∷ units_of x) (sym d)
+    let t : take n text ≡ line ++ second = ap (take n) whole ∙ take-append-add line (second ++ more) (length second) ∙ ap (λ x. line ++ x) (take-append_seam second more) in
+    let d : drop n text ≡ more = ap (drop n) whole ∙ drop-append-add line (second ++ more) (length second) ∙ drop-append_seam second more in
+    unit_pair text line after second more e f passes too ∙ ap (λ u. u ∷ units_of more) (sym t)
+    ∙ ap (λ x. take n text ∷ units_of x) (sym d)
 
 -- ---- units joined
 
+-- a byte in front of the first line
 join_onto : (b : ℕ) (lines : List (List ℕ)) → concat (onto_first b lines) ≡ b ∷ concat lines
 join_onto b [] = refl
 join_onto b (line ∷ lines) = refl
 
-join_if : (t : Bool) (x y : List (List ℕ)) (text : List ℕ) → (t ≡ true → concat x ≡ text) → (t ≡ false → concat y ≡ text) → concat (if t then x else y) ≡ text
+join_if : (t : Bool) (x y : List (List ℕ)) (text : List ℕ) → (t ≡ true → concat x ≡ text)
+    → (t ≡ false → concat y ≡ text) → concat (if t then x else y) ≡ text
 join_if true x y text f g = f refl
 join_if false x y text f g = g refl
 
 is_same : (b n : ℕ) → (b == n) ≡ true → n ≡ b
 is_same b n h = grind (arith, nat_tests)
 
+-- the lines joined are the text
 join_lines : (text : List ℕ) → concat (lines_of text) ≡ text
 unfolding lines_of
 join_lines [] = refl
@@ -188,6 +211,7 @@ join_lines (b ∷ more) =
     join_if (b == 10) ((b ∷ []) ∷ lines_of more) (onto_first b (lines_of more)) (b ∷ more)
     (λ _. ap (λ t. b ∷ t) (join_lines more)) (λ _. join_onto b (lines_of more) ∙ ap (λ t. b ∷ t) (join_lines more))
 
+-- the units joined are the lines joined
 join_paired : (lines : List (List ℕ)) → concat (paired lines) ≡ concat lines
 unfolding paired
 join_paired [] = refl
@@ -203,29 +227,31 @@ join_units text = join_paired (lines_of text) ∙ join_lines text
 
 -- ---- the first block
 
+-- units that fit, without the first ones
 each_right : (a b : List (List ℕ)) → EachFits (a ++ b) → EachFits b
 each_right [] b f = f
 each_right (u ∷ a) b f = each_right a b f.1
 
+-- what is full with nothing in it is too large
 full_stays : (room : ℕ) (u : List ℕ) (units : List (List ℕ)) → IsFull room 0 (u ∷ units) → room < length u
 full_stays room u units h = omega arith
 
-never_full : (text : List ℕ) (units : List (List ℕ)) → units_of text ≡ units → 0 < length text → EachFits units → IsFull BLOCK_WRITTEN 0 units → ⊥
+never_full : (text : List ℕ) (units : List (List ℕ)) → units_of text ≡ units → 0 < length text → EachFits units
+    → IsFull BLOCK_WRITTEN 0 units → ⊥
 never_full text [] e some f full = let j : [] ≡ text = ap concat (sym e) ∙ join_units text in let l = ap length j in omega arith
 never_full text (u ∷ units) e some f full = let a = f.0 in let b = full_stays BLOCK_WRITTEN u units full in omega arith
 
+-- so a block of a text whose units fit has some byte
 some_filled : (text : List ℕ) (size : ℕ) → 0 < length text → UnitsFit text → Fills text BLOCK_WRITTEN size → 0 < size
 some_filled text zero some fit f = let full : IsFull BLOCK_WRITTEN 0 (units_of text) = f.full in absurd (never_full text (units_of text) refl some fit full)
 some_filled text (suc n) some fit f = omega arith
 
-length_take : (n : ℕ) (l : List ℕ) → n ≤ length l → length (take n l) ≡ n
-length_take n l h = simp length-take (omega arith)
-
 -- the block that a size cuts off
-pub first_of : (text : List ℕ) (size : ℕ) → 0 < length text → UnitsFit text → Fills text BLOCK_WRITTEN size → IsFirstBlock text (take size text) (drop size text)
+pub first_of : (text : List ℕ) (size : ℕ) → 0 < length text → UnitsFit text → Fills text BLOCK_WRITTEN size
+    → IsFirstBlock text (take size text) (drop size text)
 first_of text size some fit f =
     let n = some_filled text size some fit f in
-    let l = length_take size text f.inside in
+    let l = length-take-le size text f.inside in
     let fits = f.fits in
     record {
       units = f.units;
@@ -237,5 +263,6 @@ first_of text size some fit f =
       full = subst (λ k. IsFull BLOCK_WRITTEN k (units_of (drop size text))) (sym l) f.full;
     }
 
+-- the units of what is left fit
 pub fit_after : (text block after : List ℕ) → UnitsFit text → IsFirstBlock text block after → UnitsFit after
 fit_after text block after fit f = each_right f.units (units_of after) (subst (λ u. EachFits u) f.cut fit)

@@ -7,6 +7,7 @@ use Rattle.dex_line.specs.FrameShapes.{FrameShape, Bad}
 use Rattle.dex_line.specs.FrameSpelling.{is_closing, most_text, opening, IsTextOf}
 use Rattle.dex_line.specs.Judging.{judge, judge_marked, judge_text, judge_closing, judge_check}
 use Rattle.dex_line.specs.declared.frame.Opened.{Opened}
+use Rattle.dex_line.specs.declared.begun.Begun.{Begun}
 use Rattle.dex_line.specs.declared.begun.Stage.{Stage}
 use Rattle.dex_line.specs.declared.begun.Stage.TheVariants.{Idle, Marked, Text, Closing, Check, Low}
 
@@ -57,6 +58,23 @@ IsSound (Text opened) text check = IsTextSoFar opened text check
 IsSound (Closing opened) text check = IsTextOf opened text × (check ≡ crc_of text)
 IsSound (Check opened closing) text check = IsTextClosed opened closing text check
 IsSound (Low opened closing low) text check = IsTextClosed opened closing text check
+
+-- ---- the same of what is kept
+
+-- the bytes since the last answer
+abbrev pub held : Begun → List ℕ
+held bytes = begun bytes.stage bytes.text.items
+
+abbrev pub held_with : Begun → ℕ → List ℕ
+held_with bytes b = begun_with bytes.stage bytes.text.items b
+
+abbrev pub judged_with : Begun → ℕ → Option FrameShape
+judged_with bytes b = judged_at bytes.stage bytes.text.items b
+
+abbrev pub IsHeld : Begun → Type 0
+IsHeld bytes = IsSound bytes.stage bytes.text.items bytes.check
+
+-- ---- answers
 
 -- what is left of the bytes: with an answer they begin anew
 abbrev pub kept : {A : Type 0} → Option A → List ℕ → List ℕ

@@ -5,10 +5,10 @@ ghost use Rattle.dex_line.specs.Bytes.{dle};
 ghost use Rattle.dex_line.specs.FrameShapes.{answer_seen, frame_seen};
 ghost use Rattle.dex_line.specs.FrameSpelling.{IsTextOf};
 ghost use Rattle.dex_line.specs.Judging.{closed};
-ghost use Rattle.dex_line.specs.Scanning.{begun, begun_with, judged_at, kept, IsSound};
+ghost use Rattle.dex_line.specs.Scanning.{begun, begun_with, held, held_with, judged_at, judged_with, kept, IsHeld, IsSound};
 
 use super::bytes::{DLE, ENQ, EOT, ETX, NAK, SOH, STX, is_text_byte, text_run};
-use super::frame::{BLOCK_READ, Frame, Opened, block_text, header_text};
+use super::frame::{BLOCK_READ, Frame, Opened};
 use arrayvec::ArrayVec;
 use block_check::Running;
 
@@ -38,11 +38,12 @@ pub(crate) struct Begun {
 }
 
 impl Begun {
+    /// Takes the next byte, and answers where it ends a frame or makes it bad.
     pub(crate) fn push(&mut self, byte: u8) -> Option<Frame>
-        requires { IsSound self.old.stage self.old.text.items self.old.check }
-        ensures answer { answer_seen result ≡ judged_at self.old.stage self.old.text.items byte }
-        ensures left { begun self.new.stage self.new.text.items ≡ kept result (begun_with self.old.stage self.old.text.items byte) }
-        ensures sound { IsSound self.new.stage self.new.text.items self.new.check }
+        requires { IsHeld self.old }
+        ensures answer { answer_seen result ≡ judged_with self.old byte }
+        ensures left { held self.new ≡ kept result (held_with self.old byte) }
+        ensures sound { IsHeld self.new }
     {
         match self.stage {
             Stage::Idle => self.start(byte),
@@ -57,10 +58,10 @@ impl Begun {
     /// Takes at once the bytes that go on a text, and tells how many they are.
     #[tactic(auto, using(crate::proofs::Judged::grown_none))]
     pub(crate) fn take_text(&mut self, bytes: &[u8]) -> usize
-        requires { IsSound self.old.stage self.old.text.items self.old.check }
+        requires { IsHeld self.old }
         ensures inside { result ≤ length bytes.now }
-        ensures left { begun self.new.stage self.new.text.items ≡ begun self.old.stage self.old.text.items ++ take result bytes.now }
-        ensures sound { IsSound self.new.stage self.new.text.items self.new.check }
+        ensures left { held self.new ≡ held self.old ++ take result bytes.now }
+        ensures sound { IsHeld self.new }
     {
         match self.stage {
             Stage::Text(opened) => self.take_run(opened, bytes),
@@ -68,6 +69,7 @@ impl Begun {
         }
     }
 
+    /// The same behind what has opened the text.
     #[tactic(auto, using(crate::proofs::Judged::text_goes_on))]
     fn take_run(&mut self, opened: Opened, bytes: &[u8]) -> usize
         requires stage { self.old.stage ≡ Stage.Text opened }
@@ -83,10 +85,11 @@ impl Begun {
         run.len()
     }
 
+    /// The first byte of a frame.
     fn start(&mut self, byte: u8) -> Option<Frame>
         ensures answer { answer_seen result ≡ judged_at Stage.Idle [] byte }
-        ensures left { begun self.new.stage self.new.text.items ≡ kept result (byte ∷ []) }
-        ensures sound { IsSound self.new.stage self.new.text.items self.new.check }
+        ensures left { held self.new ≡ kept result (byte ∷ []) }
+        ensures sound { IsHeld self.new }
     {
         match byte {
             DLE => self.go(Stage::Marked),
@@ -97,10 +100,11 @@ impl Begun {
         }
     }
 
+    /// The byte behind a first DLE.
     fn mark(&mut self, byte: u8) -> Option<Frame>
         ensures answer { answer_seen result ≡ judged_at Stage.Marked [] byte }
-        ensures left { begun self.new.stage self.new.text.items ≡ kept result (dle ∷ byte ∷ []) }
-        ensures sound { IsSound self.new.stage self.new.text.items self.new.check }
+        ensures left { held self.new ≡ kept result (dle ∷ byte ∷ []) }
+        ensures sound { IsHeld self.new }
     {
         match byte {
             b'0' => self.give(Frame::Ack0),
@@ -111,12 +115,13 @@ impl Begun {
         }
     }
 
+    /// A byte of a text, or the DLE behind it.
     #[tactic(auto, using(crate::proofs::Judged::text_grows, crate::proofs::Judged::text_whole, crate::proofs::Judged::not_text))]
     fn take(&mut self, opened: Opened, byte: u8) -> Option<Frame>
         requires { IsSound (Stage.Text opened) self.old.text.items self.old.check }
         ensures answer { answer_seen result ≡ judged_at (Stage.Text opened) self.old.text.items byte }
-        ensures left { begun self.new.stage self.new.text.items ≡ kept result (begun_with (Stage.Text opened) self.old.text.items byte) }
-        ensures sound { IsSound self.new.stage self.new.text.items self.new.check }
+        ensures left { held self.new ≡ kept result (begun_with (Stage.Text opened) self.old.text.items byte) }
+        ensures sound { IsHeld self.new }
     {
         if is_text_byte(byte) {
             if self.text.len() < opened.limit() {
@@ -124,18 +129,19 @@ impl Begun {
                 self.check.take(byte);
                 return self.go(Stage::Text(opened));
             }
-        } else if byte == DLE && self.text.len() > 0 {
+        } else if byte == DLE && !self.text.is_empty() {
             return self.go(Stage::Closing(opened));
         }
         self.give(Frame::Bad)
     }
 
+    /// The byte that closes a header or block.
     #[tactic(auto, using(crate::proofs::Judged::closes))]
     fn close(&mut self, opened: Opened, byte: u8) -> Option<Frame>
         requires { IsSound (Stage.Closing opened) self.old.text.items self.old.check }
         ensures answer { answer_seen result ≡ judged_at (Stage.Closing opened) self.old.text.items byte }
-        ensures left { begun self.new.stage self.new.text.items ≡ kept result (begun_with (Stage.Closing opened) self.old.text.items byte) }
-        ensures sound { IsSound self.new.stage self.new.text.items self.new.check }
+        ensures left { held self.new ≡ kept result (begun_with (Stage.Closing opened) self.old.text.items byte) }
+        ensures sound { IsHeld self.new }
     {
         if opened.is_closed_by(byte) {
             self.check.take(byte);
@@ -144,20 +150,22 @@ impl Begun {
         self.give(Frame::Bad)
     }
 
+    /// The low byte of a check.
     fn take_low(&mut self, opened: Opened, closing: u8, byte: u8) -> Option<Frame>
         requires { IsSound (Stage.Check opened closing) self.old.text.items self.old.check }
         ensures answer { answer_seen result ≡ judged_at (Stage.Check opened closing) self.old.text.items byte }
-        ensures left { begun self.new.stage self.new.text.items ≡ kept result (begun_with (Stage.Check opened closing) self.old.text.items byte) }
-        ensures sound { IsSound self.new.stage self.new.text.items self.new.check }
+        ensures left { held self.new ≡ kept result (begun_with (Stage.Check opened closing) self.old.text.items byte) }
+        ensures sound { IsHeld self.new }
     {
         self.go(Stage::Low(opened, closing, byte))
     }
 
+    /// The high byte of a check, which ends the frame.
     fn take_high(&mut self, opened: Opened, closing: u8, low: u8, byte: u8) -> Option<Frame>
         requires { IsSound (Stage.Low opened closing low) self.old.text.items self.old.check }
         ensures answer { answer_seen result ≡ judged_at (Stage.Low opened closing low) self.old.text.items byte }
-        ensures left { begun self.new.stage self.new.text.items ≡ kept result (begun_with (Stage.Low opened closing low) self.old.text.items byte) }
-        ensures sound { IsSound self.new.stage self.new.text.items self.new.check }
+        ensures left { held self.new ≡ kept result (begun_with (Stage.Low opened closing low) self.old.text.items byte) }
+        ensures sound { IsHeld self.new }
     {
         let check = self.check.value();
         if low == (check & 0xFF) as u8 && byte == (check >> 8) as u8 {
@@ -167,16 +175,18 @@ impl Begun {
         self.give(Frame::Damaged)
     }
 
+    /// Opens a header or block.
     fn open(&mut self, opened: Opened) -> Option<Frame>
         ensures answer { answer_seen result ≡ None }
-        ensures left { begun self.new.stage self.new.text.items ≡ begun (Stage.Text opened) [] }
-        ensures sound { IsSound self.new.stage self.new.text.items self.new.check }
+        ensures left { held self.new ≡ begun (Stage.Text opened) [] }
+        ensures sound { IsHeld self.new }
     {
         self.text.clear();
         self.check = Running::new();
         self.go(Stage::Text(opened))
     }
 
+    /// Goes on without an answer.
     fn go(&mut self, stage: Stage) -> Option<Frame>
         ensures answer { result ≡ None }
         ensures new { self.new ≡ record self.old { stage = stage } }
@@ -185,6 +195,7 @@ impl Begun {
         None
     }
 
+    /// Answers, and begins anew.
     pub(crate) fn give(&mut self, frame: Frame) -> Option<Frame>
         ensures answer { result ≡ Some frame }
         ensures new { self.new ≡ record self.old { stage = Stage.Idle } }
@@ -200,10 +211,7 @@ fn whole(opened: Opened, closing: u8, text: &[u8]) -> Frame
     ensures { frame_seen result ≡ closed opened text.now closing }
 {
     match opened {
-        Opened::Header => Frame::Header(header_text(text)),
-        Opened::Block => Frame::Block {
-            last: closing == ETX,
-            text: block_text(text),
-        },
+        Opened::Header => Frame::header(text),
+        Opened::Block => Frame::block(closing == ETX, text),
     }
 }

@@ -1,8 +1,8 @@
 //! A cutter, which cuts a text into blocks.
 
-ghost use Rattle.std.specs.Prelude.{◌≡◌, ◌<◌, ◌≤◌, true, [], length, IfSome, MatchOption};
+ghost use Rattle.std.specs.Prelude.{◌≡◌, ◌<◌, ◌≤◌, ◌∷◌, true, [], length, IfSome, MatchOption};
 ghost use Rattle.std.specs.List.{list_all};
-ghost use Rattle.dex_line.specs.BlockCut.{Fills, IsFirstBlock, Marks};
+ghost use Rattle.dex_line.specs.BlockCut.{blocks_of, Fills, IsFirstBlock, Marks};
 ghost use Rattle.dex_line.specs.Bytes.{is_text};
 ghost use Rattle.dex_line.specs.FrameSpelling.{IsTextOf};
 ghost use Rattle.dex_line.specs.TextUnits.{UnitsFit};
@@ -48,9 +48,20 @@ impl<'a> Cutter<'a> {
         ensures block { MatchOption result ((self.old ≡ []) × (self.new ≡ []))
             (λ x. IsFirstBlock self.old x.0.now self.new) }
         ensures marks { IfSome result (λ x. Marks x.1 self.new) }
+        // The same as the blocks of the text, for callers that compute.
+        ensures blocks { MatchOption result (blocks_of self.old ≡ []) (λ x. blocks_of self.old ≡ (x.0.now, x.1) ∷ blocks_of self.new) }
         // A block of a text of text bytes can be said.
         ensures said { IfSome result (λ x. list_all is_text self.old ≡ true
             → IsTextOf Opened.Block x.0.now × (list_all is_text self.new ≡ true)) }
+    {
+        self.cut()
+    }
+
+    fn cut(&mut self) -> Option<(&'a [u8], bool)>
+        ensures fit { UnitsFit self.old }
+        ensures block { MatchOption result ((self.old ≡ []) × (self.new ≡ []))
+            (λ x. IsFirstBlock self.old x.0.now self.new) }
+        ensures marks { IfSome result (λ x. Marks x.1 self.new) }
     {
         if self.rest.is_empty() {
             return None;

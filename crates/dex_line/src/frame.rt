@@ -1,7 +1,7 @@
 //! What is said on a line, or heard there.
 
 ghost use Rattle.std.specs.Prelude.{◌≡◌, ◌≤◌, length};
-ghost use Rattle.dex_line.specs.FrameShapes.{frame_seen};
+ghost use Rattle.dex_line.specs.FrameShapes.{frame_seen, Block, Header};
 ghost use Rattle.dex_line.specs.FrameSpelling.{is_closing, most_text};
 
 use super::bytes::{ETB, ETX};
@@ -71,6 +71,26 @@ impl Opened {
 }
 
 impl Frame {
+    /// A header with this text.
+    pub fn header(text: &[u8]) -> Frame
+        requires { length text.now ≤ HEADER_BYTES }
+        ensures { frame_seen result ≡ Header text.now }
+    {
+        let mut copy = ArrayVec::new();
+        let _ = copy.try_extend_from_slice(text);
+        Frame::Header(copy)
+    }
+
+    /// A block with this text.
+    pub fn block(last: bool, text: &[u8]) -> Frame
+        requires { length text.now ≤ BLOCK_READ }
+        ensures { frame_seen result ≡ Block last text.now }
+    {
+        let mut copy = ArrayVec::new();
+        let _ = copy.try_extend_from_slice(text);
+        Frame::Block { last, text: copy }
+    }
+
     /// The same frame once more, since a frame may have to be said again.
     pub fn copy(&self) -> Frame
         ensures { frame_seen result ≡ frame_seen self.now }
@@ -81,33 +101,10 @@ impl Frame {
             Frame::Ack1 => Frame::Ack1,
             Frame::Nak => Frame::Nak,
             Frame::Eot => Frame::Eot,
-            Frame::Header(text) => Frame::Header(header_text(text.as_slice())),
-            Frame::Block { last, text } => Frame::Block {
-                last: *last,
-                text: block_text(text.as_slice()),
-            },
+            Frame::Header(text) => Frame::header(text.as_slice()),
+            Frame::Block { last, text } => Frame::block(*last, text.as_slice()),
             Frame::Damaged => Frame::Damaged,
             Frame::Bad => Frame::Bad,
         }
     }
-}
-
-/// The text of a header.
-pub fn header_text(text: &[u8]) -> ArrayVec<u8, HEADER_BYTES>
-    requires { length text.now ≤ HEADER_BYTES }
-    ensures { result.items ≡ text.now }
-{
-    let mut copy = ArrayVec::new();
-    let _ = copy.try_extend_from_slice(text);
-    copy
-}
-
-/// The text of a block.
-pub fn block_text(text: &[u8]) -> ArrayVec<u8, BLOCK_READ>
-    requires { length text.now ≤ BLOCK_READ }
-    ensures { result.items ≡ text.now }
-{
-    let mut copy = ArrayVec::new();
-    let _ = copy.try_extend_from_slice(text);
-    copy
 }

@@ -32,6 +32,7 @@ impl<'a> Model for Frames<'a> {
 }
 
 impl<'a> Frames<'a> {
+    /// The frames of these bytes.
     pub fn new(bytes: &'a [u8]) -> Frames<'a>
         ensures { result ≡ frames_in bytes.now }
     {

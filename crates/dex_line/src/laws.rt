@@ -26,14 +26,17 @@ pub fn spellings_stand_apart()
 
 /// There is one answer to the bytes since the last one, and the decision from the left finds it.
 pub fn answers_are_decided()
-    ensures one { (bytes : List ℕ) (a b : Option FrameShape) → Answers bytes a → Answers bytes b → a ≡ b }
+    ensures one { (bytes : List ℕ) (a b : Option FrameShape) → Answers bytes a → Answers bytes b
+        → a ≡ b }
     ensures found { (bytes : List ℕ) → Answers bytes (judge bytes) }
 {}
 
 /// A stream is heard as the frames that it spells, in whatever pieces it comes.
 pub fn streams_are_heard_whole()
-    ensures pieces { (pieces : List (List ℕ)) → fold hear_all nothing_heard pieces ≡ hear_all nothing_heard (concat pieces) }
-    ensures frames { (bytes : List ℕ) → HeardAs bytes (hear_all nothing_heard bytes).shapes (hear_all nothing_heard bytes).begun }
+    ensures pieces { (pieces : List (List ℕ))
+        → fold hear_all nothing_heard pieces ≡ hear_all nothing_heard (concat pieces) }
+    ensures frames { (bytes : List ℕ)
+        → HeardAs bytes (hear_all nothing_heard bytes).shapes (hear_all nothing_heard bytes).begun }
     ensures only { (bytes : List ℕ) (shapes : List FrameShape) (rest : List ℕ) → HeardAs bytes shapes rest
         → hear_all nothing_heard bytes ≡ hearing rest shapes }
 {}
@@ -51,18 +54,23 @@ pub fn spoken_frames_are_heard()
 /// refused.
 pub fn captured_frames_are_found()
     ensures found { (bytes : List ℕ) → FramesIn 0 bytes (frames_in bytes) }
-    ensures one { (bytes : List ℕ) (frames : List (ℕ × FrameShape)) → FramesIn 0 bytes frames → frames ≡ frames_in bytes }
+    ensures one { (bytes : List ℕ) (frames : List (ℕ × FrameShape)) → FramesIn 0 bytes frames
+        → frames ≡ frames_in bytes }
     ensures covered { (bytes : List ℕ) → IsCoveredBy bytes (frames_in bytes) }
-    ensures said { (shapes : List FrameShape) → AreSpoken shapes → frames_in (flat_map spelling shapes) ≡ with_places 0 shapes }
+    ensures said { (shapes : List FrameShape) → AreSpoken shapes
+        → frames_in (flat_map spelling shapes) ≡ with_places 0 shapes }
 {}
 
 /// The blocks that the calls of a cutter give are the blocks of the text. There is one such list, and no cut into whole
 /// units has fewer.
 pub fn cuts_are_fewest()
     ensures some { (text : List ℕ) → UnitsFit text → CutOf text (blocks_of text) }
-    ensures run { (text : List ℕ) (blocks : List (List ℕ × Bool)) → CutRun text blocks [] → CutOf text blocks }
-    ensures joined { (text : List ℕ) (blocks : List (List ℕ × Bool)) → CutOf text blocks → concat (map (λ block. block.0) blocks) ≡ text }
-    ensures one { (text : List ℕ) (a b : List (List ℕ × Bool)) → CutOf text a → CutOf text b → a ≡ b }
+    ensures run { (text : List ℕ) (blocks : List (List ℕ × Bool)) → CutRun text blocks []
+        → CutOf text blocks }
+    ensures joined { (text : List ℕ) (blocks : List (List ℕ × Bool)) → CutOf text blocks
+        → concat (map (λ block. block.0) blocks) ≡ text }
+    ensures one { (text : List ℕ) (a b : List (List ℕ × Bool)) → CutOf text a → CutOf text b
+        → a ≡ b }
     ensures fewest { (text : List ℕ) (blocks : List (List ℕ × Bool)) (others : List (List (List ℕ)))
         → CutOf text blocks → IsCutInto text others → length blocks ≤ length others }
 {}

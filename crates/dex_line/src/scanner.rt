@@ -21,13 +21,13 @@ pub struct Scanner {
 
 impl Model for Scanner {
     ghost use Rattle.std.specs.Prelude.{ℕ, List};
-    ghost use Rattle.dex_line.specs.Scanning.{begun as bytes_begun, IsSound};
+    ghost use Rattle.dex_line.specs.Scanning.{held, IsHeld};
 
     ghost Value = { List ℕ };
 
-    ghost view = { λ scanner. bytes_begun scanner.begun.stage scanner.begun.text.items };
+    ghost view = { λ scanner. held scanner.begun };
 
-    ghost invariant = { λ scanner. IsSound scanner.begun.stage scanner.begun.text.items scanner.begun.check };
+    ghost invariant = { λ scanner. IsHeld scanner.begun };
 }
 
 impl Scanner {
@@ -68,7 +68,8 @@ impl Scanner {
     /// Hears bytes up to the first answer, as one `push` after another would. Tells how many it has taken, and the answer.
     pub fn hear(&mut self, bytes: &[u8]) -> (usize, Option<Frame>)
         ensures inside { result.0 ≤ length bytes.now }
-        ensures heard { hear_all (hearing self.old []) (take result.0 bytes.now) ≡ hearing self.new (shapes_seen result.1) }
+        ensures heard { hear_all (hearing self.old []) (take result.0 bytes.now)
+            ≡ hearing self.new (shapes_seen result.1) }
         // All are taken where there is no answer, and nothing has begun behind one.
         ensures all { IsNone result.1 → result.0 ≡ length bytes.now }
         ensures left { IsSome result.1 → self.new ≡ [] }

@@ -38,6 +38,7 @@ fn split_line(text: &[u8]) -> (&[u8], &[u8])
     text.split_at(line_len(text))
 }
 
+/// How many bytes the first segment has with its terminator.
 #[tactic(auto, using(crate::proofs::UnitCuts::lines_feed, crate::proofs::UnitCuts::lines_rest))]
 fn line_len(text: &[u8]) -> usize
     requires { 0 < length text.now }
@@ -57,6 +58,7 @@ fn first_feed(text: &[u8]) -> Option<usize>
     text.iter().position(|&byte| byte == b'\n')
 }
 
+/// Whether a segment is a G85.
 fn is_trailer_line(line: &[u8]) -> bool
     ensures { result ≡ is_trailer line.now }
 {
@@ -66,6 +68,7 @@ fn is_trailer_line(line: &[u8]) -> bool
     }
 }
 
+/// Whether a segment is an SE.
 fn is_set_end_line(line: &[u8]) -> bool
     ensures { result ≡ is_set_end line.now }
 {

@@ -1,4 +1,4 @@
-use Rattle.std.proofs.Common.{◌+◌, ◌∷◌, refl, sym, ◌∙◌, ap}
+use Rattle.std.proofs.Common.{◌+◌, ◌∷◌, sym, ◌∙◌, ap}
 use Rattle.dex_line.specs.Captured.{frames_from}
 use Rattle.dex_line.specs.FrameShapes.{frame_seen}
 use Rattle.dex_line.proofs.Captures.{frames_next, frames_none}

@@ -1,5 +1,5 @@
-use Rattle.std.proofs.Common.{◌<◌, ◌≡◌, [], length, take, sym, ◌∙◌, ap, arith}
-use Rattle.dex_line.specs.Hearing.{hear_all, hearing}
+use Rattle.std.proofs.Common.{◌<◌, length, sym, ◌∙◌, ap, arith}
+use Rattle.dex_line.specs.Hearing.{hearing}
 use Rattle.dex_line.proofs.Many.{text_heard, byte_heard, none_seen}
 use Rattle.dex_line.proofs.scanner.Scanner.hear.Goals as goal
 
