@@ -1,2 +1,14 @@
 pub mod Causes
 pub mod Feeds
+pub mod Disk
+pub mod Planned
+pub mod Told
+pub mod Effects
+pub mod Replayed
+pub mod ByPlan
+pub mod Logged
+pub mod Tied
+pub mod Notes
+pub mod Cursors
+pub mod Placed
+pub mod Plans

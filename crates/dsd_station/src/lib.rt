@@ -1,22 +1,40 @@
 //! The outside as the program sees it: sources, sinks, and the count of their faults.
 #![tactic(auto)]
 
+mod arming;
+mod call;
 mod failed;
+mod feeding;
+mod file_station;
+mod handed;
+mod memory_calls;
 mod memory_sink;
 mod memory_source;
+mod memory_station;
+mod port;
+mod ranges;
 mod reading;
 mod sink;
 mod source;
 mod standard;
+mod station;
+mod tape;
 mod writing;
 
+pub use arming::{ArmedFail, ArmedStop};
+pub use call::{Answer, Call, Outcome, Pick};
 pub use failed::Failed;
+pub use feeding::{Fed, Given};
+pub use file_station::FileStation;
+pub use handed::Handed;
 pub use memory_sink::MemorySink;
 pub use memory_source::MemorySource;
+pub use memory_station::MemoryStation;
 pub use reading::{ReadFault, read_up_to};
 pub use sink::Sink;
 pub use source::Source;
 pub use standard::{StdSink, StdSource};
+pub use station::{Heard, Station};
 pub use writing::write_all;
 
 #[cfg(test)]

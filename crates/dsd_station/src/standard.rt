@@ -72,7 +72,7 @@ impl<W: Write> Sink for StdSink<W> {
 
 // One read, made again where a signal interrupts it.
 #[tactic(auto, using(crate::proofs::Joined::kept_reads))]
-fn read_again<R: Read>(reader: &mut R, into: &mut [u8]) -> io::Result<usize>
+pub(crate) fn read_again<R: Read>(reader: &mut R, into: &mut [u8]) -> io::Result<usize>
     ensures bound { ReadsAtMost result into.new }
     ensures bytes { ReadConsumes (R.remaining reader.old) (R.remaining reader.new) result into.new }
 {

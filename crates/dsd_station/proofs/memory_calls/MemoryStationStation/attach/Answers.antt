@@ -1,0 +1,17 @@
+use Rattle.std.proofs.Common.{rules, ◌≡◌, ◌≤◌, ◌-◌, ℕ, List, length, take, drop, min, Ok, Err, sym, ap, ◌∙◌, arith, length-take, IfOk}
+use Rattle.dsd_station.specs.declared.call.Call.TheVariants.{Attach, Size, Read, Write, Sync, Listen, Speak}
+use Rattle.dsd_station.specs.ByPlan.{outcome_by, due_by, unless_stopped}
+use Rattle.dsd_station.specs.Effects.{answer_of, listened}
+use Rattle.dsd_station.specs.Logged.{Plays}
+use Rattle.dsd_station.specs.Planned.{heard_of}
+use Rattle.dsd_station.specs.Replayed.{state_of}
+use Rattle.dsd_station.proofs.Telling.{attaches_told}
+use Rattle.dsd_station.proofs.memory_calls.MemoryStationStation.attach.Goals as goal
+
+pub returns-clause-told : goal.returns-clause-told
+returns-clause-told c = λ _.
+    let old = c.args.self.now in
+    let new = c.play_here.new.self in
+    let answer = unless_stopped old.calls tt in
+    let plays : Plays (Attach c.args.journal.now c.args.port.now answer) answer c.play_here.result old new = search rules in
+    attaches_told old new c.args.journal.now c.args.port.now answer c.play_here.result plays
