@@ -163,11 +163,12 @@ fn push_decimals(text: &mut ArrayVec<u8, 24>, places: u32, rest: u64)
     requires room { array_vec_len text.old + places ≤ 24 }
     ensures { text.new.items ≡ text.old.items ++ decimals_text places rest }
 {
-    if rest > 0 {
-        let unit = 10u64.pow(places - 1);
-        text.push(b'0' + (rest / unit) as u8);
-        push_decimals(text, places - 1, rest % unit);
+    if rest == 0 {
+        return;
     }
+    let unit = 10u64.pow(places - 1);
+    text.push(b'0' + (rest / unit) as u8);
+    push_decimals(text, places - 1, rest % unit);
 }
 
 fn push_two(text: &mut ArrayVec<u8, 24>, number: u16)
