@@ -1,5 +1,5 @@
 -- Texts of digits, and their numbers.
-use Rattle.std.proofs.Common.{◌≡◌, ℕ, ◌+◌, ◌-◌, ◌*◌, ◌^◌, ◌<◌, ◌≤◌, Bool, true, false, List, length, get_or, take, position, Some, suc, add-one, lit<, sym, ◌∙◌, ap, inl, inr, arith}
+use Rattle.std.proofs.Common.{◌≡◌, ℕ, ◌+◌, ◌-◌, ◌*◌, ◌^◌, ◌<◌, ◌≤◌, Bool, true, false, List, length, get_or, take, position, Some, None, suc, add-one, lit<, sym, ◌∙◌, ap, inl, inr, arith}
 use Rattle.std.proofs.Math.Nat.{pow-suc, pow-le-pow_right}
 use Rattle.std.specs.Char.{IsAsciiDigit, digit_value, is_ascii_digit}
 use Rattle.std.specs.List.{position_or_len}
@@ -9,6 +9,10 @@ use Rattle.std.specs.Str.Parse.{digits_value}
 use Rattle.std.proofs.lemmas.Int.Digits.{digits_value_more}
 use Rattle.std.proofs.lemmas.List.Sums.{fails_before_first, passes_at_first}
 use Rattle.dsd_values.specs.Reading.{is_no_digit}
+
+-- no byte passes before the end
+pub none_all : (p : ℕ → Bool) (text : List ℕ) → position p text ≡ None → length text ≤ position_or_len p text
+none_all p text none = grind (arith, nat_tests)
 
 -- the first i fail and the next passes: it is the first
 pub first_is : (p : ℕ → Bool) (text : List ℕ) (i : ℕ) → i < length text → i ≤ position_or_len p text → p (get_or text i 0) ≡ true → position p text ≡ Some i

@@ -1,5 +1,5 @@
 -- Four upper-case hexadecimal digits, and what `hex` makes of them.
-use Rattle.std.proofs.Common.{◌≡◌, ◌∙◌, ℕ, zero, suc, ◌+◌, ◌*◌, ◌/◌, ◌%◌, ◌^◌, ◌<◌, ◌≤◌, Bool, false, List, [], ◌∷◌, length, map, get_or, slice_index, position, take, Some, None, Result, Ok, Err, refl, sym, ap, inl, inr, lit<, arith}
+use Rattle.std.proofs.Common.{◌≡◌, ◌∙◌, ℕ, zero, suc, ◌+◌, ◌*◌, ◌/◌, ◌%◌, ◌^◌, ◌<◌, ◌≤◌, false, List, [], ◌∷◌, length, map, get_or, slice_index, position, take, Some, None, Result, Ok, Err, refl, sym, ap, inl, inr, lit<, arith}
 use Rattle.std.specs.Prelude.{MatchResult}
 use Rattle.std.specs.Char.{digit_value, to_ascii_uppercase}
 use Rattle.std.specs.Int.{w16, from_be_bytes, to_be_bytes}
@@ -17,11 +17,8 @@ use Rattle.hex.proofs.HexLemmas.{decode_of-encode_upper, decode_sized-twice, len
 use Rattle.dsd_values.specs.Reading.{check_of, complete, is_no_check_byte}
 use Rattle.dsd_values.specs.Spelling.{IsCheckDigit, SpellsCheck}
 use Rattle.dsd_values.specs.Writing.{check_text}
+use Rattle.dsd_values.proofs.Digits.{none_all}
 use Rattle.dsd_values.proofs.Refusals.{all_pass, complete_gives, complete_ok, filled_gives, filled_ok, none_outside, ok_is}
-
--- no byte fails before the end
-pub none_all : (p : ℕ → Bool) (text : List ℕ) → position p text ≡ None → length text ≤ position_or_len p text
-none_all p text none = grind (arith, nat_tests)
 
 digit_is : (c : ℕ) → is_no_check_byte c ≡ false → (hex_digit_value c ≡ Some (digit_value c)) × (digit_value c < 16)
 digit_is c h = grind (arith, nat_tests)

@@ -23,7 +23,7 @@ use Rattle.dsd_values.proofs.Refusals.{filled_ok, filled_gives, bounded_ok, boun
 element_passes : (b : ℕ) → is_no_element_byte b ≡ false → IsElementCharacter b
 element_passes b h = ((grind (arith, nat_tests), grind (arith, nat_tests)), grind (arith, nat_tests))
 
-element_fails : (b : ℕ) → IsElementCharacter b → is_no_element_byte b ≡ false
+pub element_fails : (b : ℕ) → IsElementCharacter b → is_no_element_byte b ≡ false
 element_fails b h = grind (arith, nat_tests)
 
 -- ---- numbers

@@ -6,3 +6,4 @@ pub mod Dates
 pub mod Decimals
 pub mod Laws
 pub mod ReadBack
+pub mod Elements

@@ -3,6 +3,7 @@ use Rattle.std.proofs.Common.{◌≡◌, ℕ, ◌<◌, ◌≤◌, Bool, false, L
 use Rattle.std.specs.List.{All, position_or_len}
 use Rattle.std.proofs.lemmas.Bool.Decides.{nat_tests}
 use Rattle.std.proofs.lemmas.List.Sums.{fails_before_first, position_or_len_is}
+use Rattle.dsd_values.proofs.Digits.{none_all}
 use Rattle.dsd_values.specs.Reading.{bounded, filled, complete, within}
 use Rattle.dsd_values.specs.declared.fault.ValueFault.{ValueFault}
 
@@ -46,12 +47,9 @@ ok_is V x y e = cc
 
 -- a test by its place, and the fact for each byte
 module _ (p : ℕ → Bool) (P : ℕ → Type 0) where
-  none_all : (text : List ℕ) → position p text ≡ None → length text ≤ position_or_len p text
-  none_all text none = grind (arith, nat_tests)
-
   pub all_pass : ((b : ℕ) → p b ≡ false → P b) → (text : List ℕ) → position p text ≡ None → All P text
   all_pass passes text none k d here =
-      let far : length text ≤ position_or_len p text = none_all text none in
+      let far : length text ≤ position_or_len p text = none_all p text none in
       passes (get_or text k d) (fails_before_first p text k d (omega arith))
 
   pub none_outside : ((b : ℕ) → P b → p b ≡ false) → (text : List ℕ) → All P text → position p text ≡ None

@@ -3,6 +3,7 @@ use Rattle.std.specs.Prelude.{ℕ, ◌/◌, ◌%◌, Bool, ◌&&◌, nat_le, if�
 use Rattle.std.specs.Str.Parse.{digits_value}
 use Rattle.jiff_core.specs.Calendar.{days_in_month}
 use Rattle.dsd_values.specs.Reading.{is_no_digit, filled, complete}
+use Rattle.dsd_values.specs.declared.day.TheConstants.{DAY_BYTES}
 use Rattle.dsd_values.specs.declared.fault.ValueFault.{ValueFault}
 use Rattle.dsd_values.specs.declared.fault.ValueFault.TheVariants.{NoSuchDay}
 
@@ -29,4 +30,4 @@ date_numbered n = date_at (n / 10_000) (n / 100 % 100) (n % 100)
 -- eight digits
 abbrev pub day_of : List ℕ → Result Date ValueFault
 day_of text =
-    filled 8 (position is_no_digit text) text (complete 8 text (date_numbered (digits_value 10 text)))
+    filled DAY_BYTES (position is_no_digit text) text (complete DAY_BYTES text (date_numbered (digits_value 10 text)))

@@ -1,11 +1,25 @@
--- What readers answer: from a text to its value or its first fault, the outermost word first.
+-- What readers answer: from a text to its value or its first fault, the outermost word first. The kinds and their
+-- bounds are this project's profile.
 use Rattle.std.specs.Prelude.{◌≡◌, ℕ, ◌||◌, ◌*◌, ◌+◌, ◌-◌, ◌^◌, Bool, not, ◌&&◌, ◌==◌, nat_lt, nat_le, if◌then◌else◌, List, [], ◌∷◌, length, position, Option, Some, None, Result, Ok, Err}
 use Rattle.std.specs.Char.{is_ascii_digit}
 use Rattle.std.specs.Int.{is_in_range}
 use Rattle.std.specs.Option.{option_or, option_map}
 use Rattle.std.specs.List.{before_first, after_first, list_any}
 use Rattle.std.specs.Str.Parse.{digits_value}
-use Rattle.dsd_values.specs.declared.limits.TheConstants.{HIGHEST_LEVEL, KEPT_BYTES, WORD_BYTES}
+use Rattle.dsd_values.specs.declared.cents.TheConstants.Cents.{MAX as MOST_CENTS}
+use Rattle.dsd_values.specs.declared.cost.TheConstants.Cost.{MAX as MOST_COST}
+use Rattle.dsd_values.specs.declared.cost.TheConstants.{COST_DECIMALS}
+use Rattle.dsd_values.specs.declared.percent.TheConstants.Percent.{MAX as MOST_PERCENT}
+use Rattle.dsd_values.specs.declared.percent.TheConstants.{PERCENT_DECIMALS}
+use Rattle.dsd_values.specs.declared.quantity.TheConstants.Quantity.{MAX as MOST_QUANTITY}
+use Rattle.dsd_values.specs.declared.quantity.TheConstants.{MOST_TOTAL_QUANTITY}
+use Rattle.dsd_values.specs.declared.level.TheConstants.Level.{MAX as HIGHEST_LEVEL}
+use Rattle.dsd_values.specs.declared.dsd_number.TheConstants.DsdNumber.{MIN as LEAST_DSD, MAX as MOST_DSD}
+use Rattle.dsd_values.specs.declared.number.TheConstants.{NUMBER_BYTES}
+use Rattle.dsd_values.specs.declared.check.TheConstants.{CHECK_BYTES}
+use Rattle.dsd_values.specs.declared.comm_id.TheConstants.{COMM_ID_BYTES}
+use Rattle.dsd_values.specs.declared.delivery_number.TheConstants.{DELIVERY_NUMBER_BYTES}
+use Rattle.dsd_values.specs.declared.limits.TheConstants.{KEPT_BYTES, WORD_BYTES}
 use Rattle.dsd_values.specs.declared.fault.ValueFault.{ValueFault}
 use Rattle.dsd_values.specs.declared.fault.ValueFault.TheVariants.{Empty, TooLong, NotDigit, TooManyDecimals, OutOfRange}
 use Rattle.dsd_values.specs.declared.fault.KeptFault.{KeptFault}
@@ -41,6 +55,7 @@ within low high n = if nat_le low n && nat_le n high then Ok n else Err OutOfRan
 
 -- ---- whole numbers
 
+-- neither of '0' to '9'
 abbrev pub is_no_digit : ℕ → Bool
 is_no_digit b = not (is_ascii_digit b)
 
@@ -55,24 +70,24 @@ digits_or_place text = place_or (position is_no_digit text) (digits_value 10 tex
 
 -- 1 to 15 digits
 abbrev pub plain_number_of : List ℕ → Result ℕ ValueFault
-plain_number_of text = filled 15 (position is_no_digit text) text (Ok (digits_value 10 text))
+plain_number_of text = filled NUMBER_BYTES (position is_no_digit text) text (Ok (digits_value 10 text))
 
 -- 1 to 15 digits of a number from low to high
 abbrev pub number_of : ℕ → ℕ → List ℕ → Result ℕ ValueFault
 number_of low high text =
-    filled 15 (position is_no_digit text) text (within low high (digits_value 10 text))
+    filled NUMBER_BYTES (position is_no_digit text) text (within low high (digits_value 10 text))
 
 -- an amount of money in cents
 abbrev pub cents_of : List ℕ → Result ℕ ValueFault
-cents_of text = number_of 0 99_999_999_999 text
+cents_of text = number_of 0 MOST_CENTS text
 
 -- the quantity of a line
 abbrev pub quantity_of : List ℕ → Result ℕ ValueFault
-quantity_of text = number_of 0 99_999 text
+quantity_of text = number_of 0 MOST_QUANTITY text
 
 -- the quantity of a whole delivery
 abbrev pub total_quantity_of : List ℕ → Result ℕ ValueFault
-total_quantity_of text = number_of 0 999_999_999 text
+total_quantity_of text = number_of 0 MOST_TOTAL_QUANTITY text
 
 -- the level of a proposal
 abbrev pub level_of : List ℕ → Result ℕ ValueFault
@@ -80,17 +95,19 @@ level_of text = number_of 0 HIGHEST_LEVEL text
 
 -- the number of a line
 abbrev pub dsd_of : List ℕ → Result ℕ ValueFault
-dsd_of text = number_of 1 9_999 text
+dsd_of text = number_of LEAST_DSD MOST_DSD text
 
 -- ---- numbers with a point
 
+-- '.' is 46
 abbrev pub is_point : ℕ → Bool
 is_point b = b == 46
 
--- what stands before the first point, and after it
+-- what stands before the first point, all where there is none
 abbrev pub whole_part : List ℕ → List ℕ
 whole_part text = before_first is_point text
 
+-- what stands after the first point, nothing where there is none
 abbrev pub decimal_part : List ℕ → List ℕ
 decimal_part text = after_first is_point text
 
@@ -117,24 +134,24 @@ few_decimals places text value =
 -- digits with at most one point, and at most so many of them after it
 abbrev pub plain_decimal_of : ℕ → List ℕ → Result ℕ ValueFault
 plain_decimal_of places text =
-    filled 15 (decimal_outside text) text (few_decimals places text (Ok (decimal_value places text)))
+    filled NUMBER_BYTES (decimal_outside text) text (few_decimals places text (Ok (decimal_value places text)))
 
 -- the same of a number of at most so many units
 abbrev pub decimal_of : ℕ → ℕ → List ℕ → Result ℕ ValueFault
 decimal_of places high text =
-    filled 15 (decimal_outside text) text (few_decimals places text (within 0 high (decimal_value places text)))
+    filled NUMBER_BYTES (decimal_outside text) text (few_decimals places text (within 0 high (decimal_value places text)))
 
 -- ten-thousandths of a unit of money
 abbrev pub cost_of : List ℕ → Result ℕ ValueFault
-cost_of text = decimal_of 4 999_999_999 text
+cost_of text = decimal_of COST_DECIMALS MOST_COST text
 
 -- hundredths of a percent
 abbrev pub percent_of : List ℕ → Result ℕ ValueFault
-percent_of text = decimal_of 2 99_999 text
+percent_of text = decimal_of PERCENT_DECIMALS MOST_PERCENT text
 
 -- ---- words
 
--- an element character is 20 to 7E hexadecimal other than '*'
+-- an element character is 20 to 7E hexadecimal other than '*', which is 42
 abbrev pub is_no_element_byte : ℕ → Bool
 is_no_element_byte b = not (is_in_range 0x20 0x7E b) || (b == 42)
 
@@ -142,6 +159,7 @@ is_no_element_byte b = not (is_in_range 0x20 0x7E b) || (b == 42)
 abbrev pub IsElementText : List ℕ → Type 0
 IsElementText text = position is_no_element_byte text ≡ None
 
+-- a word, which may be empty: at most 35 element characters
 abbrev pub word_of : List ℕ → Result (List ℕ) ValueFault
 word_of text = bounded WORD_BYTES (position is_no_element_byte text) text (Ok text)
 
@@ -156,7 +174,7 @@ word_between least most text =
 
 -- ---- delivery numbers, ids and checks
 
--- no element character, or a space
+-- no element character, or a space, which is 32
 abbrev pub is_no_number_byte : ℕ → Bool
 is_no_number_byte b = is_no_element_byte b || (b == 32)
 
@@ -164,10 +182,11 @@ is_no_number_byte b = is_no_element_byte b || (b == 32)
 abbrev pub IsNumberText : List ℕ → Type 0
 IsNumberText text = position is_no_number_byte text ≡ None
 
+-- 1 to 22 element characters, none of them a space
 abbrev pub delivery_number_of : List ℕ → Result (List ℕ) ValueFault
-delivery_number_of text = filled 22 (position is_no_number_byte text) text (Ok text)
+delivery_number_of text = filled DELIVERY_NUMBER_BYTES (position is_no_number_byte text) text (Ok text)
 
--- neither a letter 'A' to 'Z' nor a digit
+-- neither a letter 'A' to 'Z', which are 65 to 90, nor a digit
 abbrev pub is_no_id_byte : ℕ → Bool
 is_no_id_byte b = not (is_in_range 65 90 b) && not (is_ascii_digit b)
 
@@ -175,27 +194,29 @@ is_no_id_byte b = not (is_in_range 65 90 b) && not (is_ascii_digit b)
 abbrev pub IsIdText : List ℕ → Type 0
 IsIdText text = position is_no_id_byte text ≡ None
 
+-- ten letters 'A' to 'Z' and digits
 abbrev pub comm_id_of : List ℕ → Result (List ℕ) ValueFault
-comm_id_of text = filled 10 (position is_no_id_byte text) text (complete 10 text (Ok text))
+comm_id_of text =
+    filled COMM_ID_BYTES (position is_no_id_byte text) text (complete COMM_ID_BYTES text (Ok text))
 
--- neither a digit nor a letter 'A' to 'F'
+-- neither a digit nor a letter 'A' to 'F', which are 65 to 70
 abbrev pub is_no_check_byte : ℕ → Bool
 is_no_check_byte b = not (is_ascii_digit b) && not (is_in_range 65 70 b)
 
 -- four hexadecimal digits with upper-case letters
 abbrev pub check_of : List ℕ → Result ℕ ValueFault
 check_of text =
-    filled 4 (position is_no_check_byte text) text (complete 4 text (Ok (digits_value 16 text)))
+    filled CHECK_BYTES (position is_no_check_byte text) text (complete CHECK_BYTES text (Ok (digits_value 16 text)))
 
 -- ---- fixed choices
 
--- 'D' or 'C'
+-- 'D', which is 68, or 'C', which is 67
 abbrev pub flag_of : List ℕ → Result Flag ValueFault
 flag_of [] = Err Empty
 flag_of (b ∷ []) = if b == 68 then Ok Debit else if b == 67 then Ok Credit else Err OutOfRange
 flag_of (b ∷ c ∷ rest) = Err OutOfRange
 
--- 'S' or 'R'
+-- 'S', which is 83, or 'R', which is 82
 abbrev pub role_of : List ℕ → Result Role ValueFault
 role_of [] = Err Empty
 role_of (b ∷ []) = if b == 83 then Ok Supplier else if b == 82 then Ok Receiver else Err OutOfRange
@@ -203,5 +224,6 @@ role_of (b ∷ c ∷ rest) = Err OutOfRange
 
 -- ---- texts that are kept
 
+-- a text of at most 512 bytes, as it came
 abbrev pub kept_of : List ℕ → Result (List ℕ) KeptFault
 kept_of text = if nat_lt KEPT_BYTES (length text) then Err (Long (length text)) else Ok text

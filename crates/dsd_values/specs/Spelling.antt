@@ -6,7 +6,21 @@ use Rattle.std.specs.List.{All}
 use Rattle.std.specs.Str.Parse.{digits_value}
 use Rattle.jiff_core.specs.Calendar.{IsDate}
 use Rattle.dsd_values.specs.Calendar.{Date}
-use Rattle.dsd_values.specs.declared.limits.TheConstants.{HIGHEST_LEVEL, WORD_BYTES}
+use Rattle.dsd_values.specs.declared.cents.TheConstants.Cents.{MAX as MOST_CENTS}
+use Rattle.dsd_values.specs.declared.cost.TheConstants.Cost.{MAX as MOST_COST}
+use Rattle.dsd_values.specs.declared.cost.TheConstants.{COST_DECIMALS}
+use Rattle.dsd_values.specs.declared.percent.TheConstants.Percent.{MAX as MOST_PERCENT}
+use Rattle.dsd_values.specs.declared.percent.TheConstants.{PERCENT_DECIMALS}
+use Rattle.dsd_values.specs.declared.quantity.TheConstants.Quantity.{MAX as MOST_QUANTITY}
+use Rattle.dsd_values.specs.declared.quantity.TheConstants.{MOST_TOTAL_QUANTITY}
+use Rattle.dsd_values.specs.declared.level.TheConstants.Level.{MAX as HIGHEST_LEVEL}
+use Rattle.dsd_values.specs.declared.dsd_number.TheConstants.DsdNumber.{MIN as LEAST_DSD, MAX as MOST_DSD}
+use Rattle.dsd_values.specs.declared.number.TheConstants.{NUMBER_BYTES}
+use Rattle.dsd_values.specs.declared.check.TheConstants.{CHECK_BYTES}
+use Rattle.dsd_values.specs.declared.comm_id.TheConstants.{COMM_ID_BYTES}
+use Rattle.dsd_values.specs.declared.delivery_number.TheConstants.{DELIVERY_NUMBER_BYTES}
+use Rattle.dsd_values.specs.declared.day.TheConstants.{DAY_BYTES}
+use Rattle.dsd_values.specs.declared.limits.TheConstants.{WORD_BYTES}
 use Rattle.dsd_values.specs.declared.flag.Flag.{Flag}
 use Rattle.dsd_values.specs.declared.flag.Flag.TheVariants.{Debit, Credit}
 use Rattle.dsd_values.specs.declared.role.Role.{Role}
@@ -17,13 +31,13 @@ use Rattle.dsd_values.specs.declared.role.Role.TheVariants.{Supplier, Receiver}
 -- 1 to 15 digits, leading zeros among them, of a number from low to high
 pub record SpellsNumber (low high number : ℕ) (text : List ℕ) : Type 0 where
   pub filled : 0 < length text
-  pub short : length text ≤ 15
+  pub short : length text ≤ NUMBER_BYTES
   pub digits : All IsAsciiDigit text
   pub value : digits_value 10 text ≡ number
   pub at_least : low ≤ number
   pub at_most : number ≤ high
 
--- the digits before and after a point. A text without a point has none after it
+-- the digits before and after a point, which is 46. A text without a point has none after it
 abbrev pub HasParts : List ℕ → List ℕ → List ℕ → Type 0
 HasParts whole decimals text = (text ≡ whole ++ 46 ∷ decimals) ⊎ ((text ≡ whole) × (decimals ≡ []))
 
@@ -36,26 +50,26 @@ pub record SpellsDecimal (places high number : ℕ) (text : List ℕ) : Type 0 w
   pub whole_digits : All IsAsciiDigit whole
   pub decimal_digits : All IsAsciiDigit decimals
   pub filled : 0 < length whole + length decimals
-  pub short : length text ≤ 15
+  pub short : length text ≤ NUMBER_BYTES
   pub few : length decimals ≤ places
   pub value : digits_value 10 whole * 10 ^ places + digits_value 10 decimals * 10 ^ (places - length decimals) ≡ number
   pub at_most : number ≤ high
 
--- 1 to 15 digits of any number
+-- 1 to 15 digits of any number. So many digits write no greater one
 abbrev pub SpellsPlainNumber : ℕ → List ℕ → Type 0
 SpellsPlainNumber number text = SpellsNumber 0 999_999_999_999_999 number text
 
 -- an amount of money in cents
 abbrev pub SpellsCents : ℕ → List ℕ → Type 0
-SpellsCents cents text = SpellsNumber 0 99_999_999_999 cents text
+SpellsCents cents text = SpellsNumber 0 MOST_CENTS cents text
 
 -- the quantity of a line
 abbrev pub SpellsQuantity : ℕ → List ℕ → Type 0
-SpellsQuantity quantity text = SpellsNumber 0 99_999 quantity text
+SpellsQuantity quantity text = SpellsNumber 0 MOST_QUANTITY quantity text
 
 -- the quantity of a whole delivery
 abbrev pub SpellsTotalQuantity : ℕ → List ℕ → Type 0
-SpellsTotalQuantity quantity text = SpellsNumber 0 999_999_999 quantity text
+SpellsTotalQuantity quantity text = SpellsNumber 0 MOST_TOTAL_QUANTITY quantity text
 
 -- the level of a proposal
 abbrev pub SpellsLevel : ℕ → List ℕ → Type 0
@@ -63,19 +77,19 @@ SpellsLevel level text = SpellsNumber 0 HIGHEST_LEVEL level text
 
 -- the number of a line
 abbrev pub SpellsDsd : ℕ → List ℕ → Type 0
-SpellsDsd dsd text = SpellsNumber 1 9_999 dsd text
+SpellsDsd dsd text = SpellsNumber LEAST_DSD MOST_DSD dsd text
 
 -- ten-thousandths of a unit of money
 abbrev pub SpellsCost : ℕ → List ℕ → Type 0
-SpellsCost cost text = SpellsDecimal 4 999_999_999 cost text
+SpellsCost cost text = SpellsDecimal COST_DECIMALS MOST_COST cost text
 
 -- hundredths of a percent
 abbrev pub SpellsPercent : ℕ → List ℕ → Type 0
-SpellsPercent percent text = SpellsDecimal 2 99_999 percent text
+SpellsPercent percent text = SpellsDecimal PERCENT_DECIMALS MOST_PERCENT percent text
 
 -- ---- words
 
--- 20 to 7E hexadecimal other than '*', which parts elements
+-- 20 to 7E hexadecimal other than '*', which is 42 and parts elements
 abbrev pub IsElementCharacter : ℕ → Type 0
 IsElementCharacter b = IsInRange 0x20 0x7E b × (b ≢ 42)
 
@@ -97,7 +111,7 @@ pub record SpellsWordBetween (least most : ℕ) (word text : List ℕ) : Type 0 
 abbrev pub SpellsFilledWord : List ℕ → List ℕ → Type 0
 SpellsFilledWord word text = SpellsWordBetween 1 WORD_BYTES word text
 
--- the same other than a space
+-- the same other than a space, which is 32
 abbrev pub IsNumberCharacter : ℕ → Type 0
 IsNumberCharacter b = IsElementCharacter b × (b ≢ 32)
 
@@ -106,7 +120,7 @@ pub record SpellsDeliveryNumber (number text : List ℕ) : Type 0 where
   pub same : text ≡ number
   pub characters : All IsNumberCharacter text
   pub filled : 0 < length text
-  pub short : length text ≤ 22
+  pub short : length text ≤ DELIVERY_NUMBER_BYTES
 
 -- a letter 'A' to 'Z' or a digit
 abbrev pub IsIdCharacter : ℕ → Type 0
@@ -116,7 +130,7 @@ IsIdCharacter b = IsAsciiUppercase b ⊎ IsAsciiDigit b
 pub record SpellsCommId (id text : List ℕ) : Type 0 where
   pub same : text ≡ id
   pub characters : All IsIdCharacter text
-  pub ten : length text ≡ 10
+  pub ten : length text ≡ COMM_ID_BYTES
 
 -- ---- checks and days
 
@@ -127,13 +141,13 @@ IsCheckDigit b = IsAsciiDigit b ⊎ IsInRange 65 70 b
 -- four hexadecimal digits with upper-case letters
 pub record SpellsCheck (check : ℕ) (text : List ℕ) : Type 0 where
   pub digits : All IsCheckDigit text
-  pub four : length text ≡ 4
+  pub four : length text ≡ CHECK_BYTES
   pub value : digits_value 16 text ≡ check
 
 -- four digits of the year, two of the month and two of the day, of a date that the calendar has
 pub record SpellsDay (date : Date) (text : List ℕ) : Type 0 where
   pub digits : All IsAsciiDigit text
-  pub eight : length text ≡ 8
+  pub eight : length text ≡ DAY_BYTES
   pub year : digits_value 10 (take 4 text) ≡ date.year
   pub month : digits_value 10 (take 2 (drop 4 text)) ≡ date.month
   pub day : digits_value 10 (drop 6 text) ≡ date.day
@@ -141,10 +155,12 @@ pub record SpellsDay (date : Date) (text : List ℕ) : Type 0 where
 
 -- ---- fixed choices
 
+-- the one letter of each flag
 abbrev pub flag_text : Flag → List ℕ
 flag_text Debit = codes "D"
 flag_text Credit = codes "C"
 
+-- the one letter of each role
 abbrev pub role_text : Role → List ℕ
 role_text Supplier = codes "S"
 role_text Receiver = codes "R"

@@ -1,8 +1,10 @@
--- The one text that is written of each value.
+-- The one text that is written of each value (this project's profile).
 use Rattle.std.specs.Prelude.{ℕ, zero, suc, ◌+◌, ◌/◌, ◌%◌, ◌^◌, not, ◌&&◌, ◌==◌, if◌then◌else◌, List, [], ◌∷◌, ◌++◌}
 use Rattle.std.specs.Fmt.{decimal}
 use Rattle.std.specs.Int.{w16, to_be_bytes}
 use Rattle.hex.specs.Hex.{encode_upper}
+use Rattle.dsd_values.specs.declared.cost.TheConstants.{COST_DECIMALS}
+use Rattle.dsd_values.specs.declared.percent.TheConstants.{PERCENT_DECIMALS}
 use Rattle.dsd_values.specs.Calendar.{Date}
 
 -- the digits of a number without leading zeros, and `0` for zero
@@ -28,11 +30,11 @@ decimal_text places n = whole_text (n / 10 ^ places) (n % 10 ^ places) ++ rest_t
 
 -- ten-thousandths of a unit of money
 abbrev pub cost_text : ℕ → List ℕ
-cost_text cost = decimal_text 4 cost
+cost_text cost = decimal_text COST_DECIMALS cost
 
 -- hundredths of a percent
 abbrev pub percent_text : ℕ → List ℕ
-percent_text percent = decimal_text 2 percent
+percent_text percent = decimal_text PERCENT_DECIMALS percent
 
 -- four upper-case hexadecimal digits, those of the higher byte first
 abbrev pub check_text : ℕ → List ℕ

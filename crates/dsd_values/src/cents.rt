@@ -16,12 +16,13 @@ pub struct Cents {
 
 impl Model for Cents {
     ghost use Rattle.std.specs.Prelude.{ℕ, ◌≤◌};
+    ghost use Rattle.dsd_values.specs.declared.cents.TheConstants.Cents.{MAX};
 
     ghost Value = { ℕ };
 
     ghost view = { λ cents. cents.value };
 
-    ghost invariant = { λ cents. cents.value ≤ 99_999_999_999 };
+    ghost invariant = { λ cents. cents.value ≤ MAX };
 
     ghost inverse = { λ n. record { value = n } };
 }

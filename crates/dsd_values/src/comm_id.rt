@@ -1,7 +1,7 @@
 //! Communication ids.
 
 ghost use Rattle.std.specs.Prelude.{◌≡◌, ◌↔◌, ℕ, List, Ok, position};
-ghost use Rattle.dsd_values.specs.Reading.{IsIdText, comm_id_of, is_no_id_byte};
+ghost use Rattle.dsd_values.specs.Reading.{IsElementText, IsIdText, comm_id_of, is_no_id_byte};
 ghost use Rattle.dsd_values.specs.Spelling.{SpellsCommId};
 
 use crate::fault::ValueFault;
@@ -37,9 +37,11 @@ impl CommId {
         CommId { id: value }
     }
 
+    #[tactic(auto, using(crate::proofs::Elements::id_element))]
     pub fn get(self) -> [u8; 10]
         ensures value { result ≡ self }
         ensures characters { IsIdText result }
+        ensures element { IsElementText result }
     {
         self.id
     }

@@ -16,12 +16,13 @@ pub struct Cost {
 
 impl Model for Cost {
     ghost use Rattle.std.specs.Prelude.{ℕ, ◌≤◌};
+    ghost use Rattle.dsd_values.specs.declared.cost.TheConstants.Cost.{MAX};
 
     ghost Value = { ℕ };
 
     ghost view = { λ cost. cost.value };
 
-    ghost invariant = { λ cost. cost.value ≤ 999_999_999 };
+    ghost invariant = { λ cost. cost.value ≤ MAX };
 
     ghost inverse = { λ n. record { value = n } };
 }

@@ -73,8 +73,8 @@ fn first_point(text: &[u8]) -> Option<usize>
 
 /// The numbers before and after the point, or the place of the first byte that is no digit.
 fn both_parts(whole: &[u8], decimals: &[u8]) -> Result<(u64, u64), usize>
-    requires whole { length whole.now ≤ 15 }
-    requires decimals { length decimals.now ≤ 15 }
+    requires whole { length whole.now ≤ NUMBER_BYTES }
+    requires decimals { length decimals.now ≤ NUMBER_BYTES }
     ensures value { result ≡ place_or (outside_parts whole.now decimals.now) (digits_value 10 whole.now, digits_value 10 decimals.now) }
     ensures whole_under { IfOk result (λ parts. parts.0 < 10 ^ 15) }
     ensures decimals_under { IfOk result (λ parts. parts.1 < 10 ^ length decimals.now) }

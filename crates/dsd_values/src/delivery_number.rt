@@ -1,7 +1,7 @@
 //! Delivery numbers.
 
 ghost use Rattle.std.specs.Prelude.{◌≡◌, ◌↔◌, ◌<◌, ◌≤◌, ℕ, List, Ok, length, position};
-ghost use Rattle.dsd_values.specs.Reading.{IsNumberText, delivery_number_of, is_no_number_byte};
+ghost use Rattle.dsd_values.specs.Reading.{IsElementText, IsNumberText, delivery_number_of, is_no_number_byte};
 ghost use Rattle.dsd_values.specs.Spelling.{SpellsDeliveryNumber};
 
 use crate::fault::ValueFault;
@@ -29,9 +29,11 @@ impl Model for DeliveryNumber {
 }
 
 impl DeliveryNumber {
+    #[tactic(auto, using(crate::proofs::Elements::delivery_element))]
     pub fn as_slice(&self) -> &[u8]
         ensures value { result.now ≡ self.now }
         ensures characters { IsNumberText result.now }
+        ensures element { IsElementText result.now }
         ensures filled { 0 < length result.now }
         ensures short { length result.now ≤ DELIVERY_NUMBER_BYTES }
     {

@@ -16,12 +16,13 @@ pub struct DsdNumber {
 
 impl Model for DsdNumber {
     ghost use Rattle.std.specs.Prelude.{ℕ, ◌≤◌};
+    ghost use Rattle.dsd_values.specs.declared.dsd_number.TheConstants.DsdNumber.{MAX, MIN};
 
     ghost Value = { ℕ };
 
     ghost view = { λ dsd. dsd.value };
 
-    ghost invariant = { λ dsd. (1 ≤ dsd.value) × (dsd.value ≤ 9_999) };
+    ghost invariant = { λ dsd. (MIN ≤ dsd.value) × (dsd.value ≤ MAX) };
 
     ghost inverse = { λ n. record { value = n } };
 }

@@ -17,13 +17,13 @@ pub struct Level {
 
 impl Model for Level {
     ghost use Rattle.std.specs.Prelude.{ℕ, ◌≤◌};
-    ghost use Rattle.dsd_values.specs.declared.limits.TheConstants.{HIGHEST_LEVEL};
+    ghost use Rattle.dsd_values.specs.declared.level.TheConstants.Level.{MAX};
 
     ghost Value = { ℕ };
 
     ghost view = { λ level. level.value };
 
-    ghost invariant = { λ level. level.value ≤ HIGHEST_LEVEL };
+    ghost invariant = { λ level. level.value ≤ MAX };
 
     ghost inverse = { λ n. record { value = n } };
 }

@@ -41,7 +41,7 @@ pub(crate) fn number_within(text: &[u8], low: u64, high: u64) -> Result<u64, Val
 
 /// The number that the digits write, 0 for none, or the place of the first byte that is no digit.
 pub(crate) fn digits(text: &[u8]) -> Result<u64, usize>
-    requires { length text.now ≤ 15 }
+    requires { length text.now ≤ NUMBER_BYTES }
     ensures value { result ≡ digits_or_place text.now }
     ensures under { IfOk result (λ number. number < 10 ^ length text.now) }
     ensures small { IfOk result (λ number. number < 10 ^ 15) }

@@ -16,12 +16,13 @@ pub struct Percent {
 
 impl Model for Percent {
     ghost use Rattle.std.specs.Prelude.{ℕ, ◌≤◌};
+    ghost use Rattle.dsd_values.specs.declared.percent.TheConstants.Percent.{MAX};
 
     ghost Value = { ℕ };
 
     ghost view = { λ percent. percent.value };
 
-    ghost invariant = { λ percent. percent.value ≤ 99_999 };
+    ghost invariant = { λ percent. percent.value ≤ MAX };
 
     ghost inverse = { λ n. record { value = n } };
 }

@@ -16,12 +16,13 @@ pub struct Quantity {
 
 impl Model for Quantity {
     ghost use Rattle.std.specs.Prelude.{ℕ, ◌≤◌};
+    ghost use Rattle.dsd_values.specs.declared.quantity.TheConstants.Quantity.{MAX};
 
     ghost Value = { ℕ };
 
     ghost view = { λ quantity. quantity.value };
 
-    ghost invariant = { λ quantity. quantity.value ≤ 99_999 };
+    ghost invariant = { λ quantity. quantity.value ≤ MAX };
 
     ghost inverse = { λ n. record { value = n } };
 }

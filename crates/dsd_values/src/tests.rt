@@ -131,6 +131,18 @@ fn lists_keep_what_is_pushed(rt: HostRuntime) -> Result<(), Fail> {
     assert_eq!(rt; text.try_copy(alloc)?.as_slice(), b"S".as_slice());
     let mut extras = Extras::new(alloc);
     extras.push(Extra::Note(Kept::new(alloc, b"G23*A")?))?;
+    extras.push(Extra::Allow(Allowance {
+        code: read_word(b"90")?,
+        method: read_word(b"02")?,
+        number: read_word(b"")?,
+        exception: read_word(b"")?,
+        rate: None,
+        quantity: None,
+        unit: read_word(b"")?,
+        total: None,
+        percent: Some(Percent::new(250)),
+        tail: Kept::new(alloc, b"")?,
+    }))?;
     assert!(rt; matches!(Kept::new(alloc, &[b'A'; 513]), Err(KeptFault::Long(513))));
     let mut lines = Lines::new(alloc);
     lines.push(Line {
@@ -149,6 +161,6 @@ fn lists_keep_what_is_pushed(rt: HostRuntime) -> Result<(), Fail> {
     })?;
     let copy = lines.try_copy(alloc)?;
     assert_eq!(rt; copy.as_slice().len(), 1);
-    assert_eq!(rt; copy.as_slice()[0].extras.as_slice().len(), 1);
+    assert_eq!(rt; copy.as_slice()[0].extras.as_slice().len(), 2);
     Ok(())
 }

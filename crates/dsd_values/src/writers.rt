@@ -6,7 +6,7 @@ ghost use Rattle.std.specs.Int.{to_be_bytes, w16};
 ghost use Rattle.arrayvec.specs.ArrayVec.{array_vec_len};
 ghost use Rattle.hex.specs.Hex.{encode_lower};
 ghost use Rattle.dsd_values.specs.Calendar.{day_of};
-ghost use Rattle.dsd_values.specs.Reading.{cents_of, check_of, cost_of, dsd_of, level_of, number_of, percent_of, quantity_of, total_quantity_of};
+ghost use Rattle.dsd_values.specs.Reading.{IsElementText, cents_of, check_of, cost_of, dsd_of, level_of, number_of, percent_of, quantity_of, total_quantity_of};
 ghost use Rattle.dsd_values.specs.Writing.{check_text, cost_text, day_text, decimal_text, decimals_text, number_text, percent_text, two_digits};
 
 use crate::cents::Cents;
@@ -23,6 +23,7 @@ use arrayvec::ArrayVec;
 pub fn write_cents(value: Cents) -> ArrayVec<u8, 24>
     ensures text { result.items ≡ number_text value }
     ensures read_back { cents_of result.items ≡ Ok value }
+    ensures element { IsElementText result.items }
 {
     write_number(value.get())
 }
@@ -31,6 +32,7 @@ pub fn write_cents(value: Cents) -> ArrayVec<u8, 24>
 pub fn write_quantity(value: Quantity) -> ArrayVec<u8, 24>
     ensures text { result.items ≡ number_text value }
     ensures read_back { quantity_of result.items ≡ Ok value }
+    ensures element { IsElementText result.items }
 {
     write_number(u64::from(value.get()))
 }
@@ -40,6 +42,7 @@ pub fn write_total_quantity(value: u32) -> ArrayVec<u8, 24>
     requires { value ≤ MOST_TOTAL_QUANTITY }
     ensures text { result.items ≡ number_text value }
     ensures read_back { total_quantity_of result.items ≡ Ok value }
+    ensures element { IsElementText result.items }
 {
     write_number(u64::from(value))
 }
@@ -48,6 +51,7 @@ pub fn write_total_quantity(value: u32) -> ArrayVec<u8, 24>
 pub fn write_cost(value: Cost) -> ArrayVec<u8, 24>
     ensures text { result.items ≡ cost_text value }
     ensures read_back { cost_of result.items ≡ Ok value }
+    ensures element { IsElementText result.items }
 {
     write_decimal(value.get(), COST_DECIMALS)
 }
@@ -56,6 +60,7 @@ pub fn write_cost(value: Cost) -> ArrayVec<u8, 24>
 pub fn write_percent(value: Percent) -> ArrayVec<u8, 24>
     ensures text { result.items ≡ percent_text value }
     ensures read_back { percent_of result.items ≡ Ok value }
+    ensures element { IsElementText result.items }
 {
     write_decimal(u64::from(value.get()), PERCENT_DECIMALS)
 }
@@ -64,6 +69,7 @@ pub fn write_percent(value: Percent) -> ArrayVec<u8, 24>
 pub fn write_level(value: Level) -> ArrayVec<u8, 24>
     ensures text { result.items ≡ number_text value }
     ensures read_back { level_of result.items ≡ Ok value }
+    ensures element { IsElementText result.items }
 {
     write_number(u64::from(value.get()))
 }
@@ -72,6 +78,7 @@ pub fn write_level(value: Level) -> ArrayVec<u8, 24>
 pub fn write_dsd(value: DsdNumber) -> ArrayVec<u8, 24>
     ensures text { result.items ≡ number_text value }
     ensures read_back { dsd_of result.items ≡ Ok value }
+    ensures element { IsElementText result.items }
 {
     write_number(u64::from(value.get()))
 }
@@ -80,6 +87,7 @@ pub fn write_dsd(value: DsdNumber) -> ArrayVec<u8, 24>
 pub fn write_check(value: Check) -> ArrayVec<u8, 24>
     ensures text { result.items ≡ check_text value }
     ensures read_back { check_of result.items ≡ Ok value }
+    ensures element { IsElementText result.items }
 {
     let digits = lower_case(value.get());
     let mut text = ArrayVec::new();
@@ -93,6 +101,7 @@ pub fn write_check(value: Check) -> ArrayVec<u8, 24>
 pub fn write_day(value: Day) -> ArrayVec<u8, 24>
     ensures text { result.items ≡ day_text value }
     ensures read_back { day_of result.items ≡ Ok value }
+    ensures element { IsElementText result.items }
 {
     let mut text = ArrayVec::new();
     push_two(&mut text, value.year() / 100);
@@ -117,6 +126,7 @@ fn write_number(number: u64) -> ArrayVec<u8, 24>
     requires { number < 10 ^ 15 }
     ensures text { result.items ≡ number_text number }
     ensures read_back { (low high : ℕ) → low ≤ number → number ≤ high → number_of low high result.items ≡ Ok number }
+    ensures element { IsElementText result.items }
 {
     let mut text = ArrayVec::new();
     push_number(&mut text, number);
@@ -163,11 +173,12 @@ fn push_decimals(text: &mut ArrayVec<u8, 24>, places: u32, rest: u64)
     requires room { array_vec_len text.old + places ≤ 24 }
     ensures { text.new.items ≡ text.old.items ++ decimals_text places rest }
 {
-    if rest > 0 {
-        let unit = 10u64.pow(places - 1);
-        text.push(b'0' + (rest / unit) as u8);
-        push_decimals(text, places - 1, rest % unit);
+    if rest == 0 {
+        return;
     }
+    let unit = 10u64.pow(places - 1);
+    text.push(b'0' + (rest / unit) as u8);
+    push_decimals(text, places - 1, rest % unit);
 }
 
 fn push_two(text: &mut ArrayVec<u8, 24>, number: u16)

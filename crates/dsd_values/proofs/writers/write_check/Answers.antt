@@ -2,6 +2,7 @@ use Rattle.std.proofs.Common.{◌≡◌, ◌∙◌, ◌<◌, ◌^◌, ap, arith}
 use Rattle.std.specs.Int.{w16, to_be_bytes}
 use Rattle.hex.specs.Hex.{encode_lower}
 use Rattle.dsd_values.proofs.Hexadecimal.{check_written, check_read_back}
+use Rattle.dsd_values.proofs.Elements.{check_element}
 use Rattle.dsd_values.proofs.writers.write_check.Goals as goal
 
 pub returns-clause-text : goal.returns-clause-text
@@ -14,3 +15,6 @@ pub returns-clause-read_back : goal.returns-clause-read_back
 returns-clause-read_back c =
     let small : c.args.value < 2 ^ 16 = omega (arith, c.get.ensures) in
     check_read_back c.args.value c.loop-digit.text.items small (returns-clause-text c)
+
+pub returns-clause-element : goal.returns-clause-element
+returns-clause-element c = check_element c.loop-digit.text.items c.args.value (returns-clause-read_back c)
