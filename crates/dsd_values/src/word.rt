@@ -28,6 +28,17 @@ impl Model for Word {
 }
 
 impl Word {
+    /// The word of these characters, which are not judged again.
+    pub fn new(text: &[u8]) -> Word
+        requires characters { IsElementText text.now }
+        requires short { length text.now ≤ WORD_BYTES }
+        ensures { result ≡ text.now }
+    {
+        let mut copy = ArrayVec::new();
+        let _ = copy.try_extend_from_slice(text);
+        Word { text: copy }
+    }
+
     /// The word of no characters.
     pub fn empty() -> Word
         ensures { result ≡ [] }
@@ -49,7 +60,7 @@ impl Word {
     pub fn copy(&self) -> Word
         ensures { result ≡ self.now }
     {
-        copied(self.text.as_slice())
+        Word::new(self.text.as_slice())
     }
 }
 
@@ -63,7 +74,7 @@ pub fn read_word(text: &[u8]) -> Result<Word, ValueFault>
     }
     match first_outside(text) {
         Some(place) => Err(ValueFault::NotDigit(place)),
-        None => Ok(copied(text)),
+        None => Ok(Word::new(text)),
     }
 }
 
@@ -93,7 +104,7 @@ pub fn read_word_between(text: &[u8], least: usize, most: usize) -> Result<Word,
     match first_outside(text) {
         Some(place) => Err(ValueFault::NotDigit(place)),
         None if text.len() < least => Err(ValueFault::OutOfRange),
-        None => Ok(copied(text)),
+        None => Ok(Word::new(text)),
     }
 }
 
@@ -102,14 +113,4 @@ fn first_outside(text: &[u8]) -> Option<usize>
 {
     text.iter()
         .position(|byte| !(0x20..=0x7E).contains(byte) || *byte == b'*')
-}
-
-fn copied(text: &[u8]) -> Word
-    requires characters { IsElementText text.now }
-    requires short { length text.now ≤ WORD_BYTES }
-    ensures { result ≡ text.now }
-{
-    let mut copy = ArrayVec::new();
-    let _ = copy.try_extend_from_slice(text);
-    Word { text: copy }
 }

@@ -29,7 +29,7 @@ all_inside (b ∷ more) e =
 none_there : (text : List ℕ) → prefix_len (λ (b : ℕ). not (is_no_element_byte b)) text ≡ length text → position is_no_element_byte text ≡ None
 none_there text e = grind (arith, nat_tests)
 
-no_place : (text : List ℕ) → AllPass is_element_character text → position is_no_element_byte text ≡ None
+pub no_place : (text : List ℕ) → AllPass is_element_character text → position is_no_element_byte text ≡ None
 no_place text e = none_there text (all_inside text (list_all-from_AllPass is_element_character text e))
 
 pub word_is : (text : List ℕ) → AllPass is_element_character text → length text ≤ 3 → word_of text ≡ Ok text

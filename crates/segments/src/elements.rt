@@ -1,17 +1,18 @@
 //! The elements of a segment, read one by one: each answers its value, or refuses its element by number.
 
-ghost use Rattle.std.specs.Prelude.{◌≡◌, ◌+◌, ◌<◌, ◌≤◌, ℕ, [], None, length, IfOk, OnOk, Ok};
+ghost use Rattle.std.specs.Prelude.{◌≡◌, ◌+◌, ◌<◌, ◌≤◌, ℕ, [], None, length, IfOk, OnOk, Ok, Err};
 ghost use Rattle.std.specs.List.{join_with_byte};
 ghost use Rattle.dsd_values.specs.Answers.{UnlessMemory};
 ghost use Rattle.dsd_values.specs.Reading.{plain_number_of, dsd_of, quantity_of, total_quantity_of, cents_of, cost_of, check_of, word_of, filled_word_of, word_between};
 ghost use Rattle.segments.specs.Views.{element_of};
+ghost use Rattle.dsd_values.specs.declared.fault.ValueFault.TheVariants.{TooLong};
 ghost use Rattle.segments.specs.Elements.{Reads, at_element, said, optional, no_more, filled_from, tail_from, without_end_stars as trimmed};
 
 use crate::item_fault::ItemFault;
 use crate::segment::Segment;
 use dsd_values::{
-    read_cents, read_check, read_cost, read_dsd, read_filled_word, read_number, read_quantity, read_total_quantity,
-    read_word, read_word_between, Cents, Check, Cost, DsdNumber, Kept, KeptFault, Quantity, ValueFault, Word,
+    read_cents, read_check, read_cost, read_dsd, read_number, read_quantity, read_total_quantity,
+    read_word_between, Cents, Check, Cost, DsdNumber, Kept, KeptFault, Quantity, ValueFault, WORD_BYTES, Word,
 };
 use std::alloc::Global;
 
@@ -25,23 +26,53 @@ pub fn in_element<V>(element: usize, answer: Result<V, ValueFault>) -> Result<V,
     }
 }
 
-/// An optional word: empty where the element is.
+/// An optional word: empty where the element is. The characters of an element are not judged again.
+#[tactic(auto, using(crate::proofs::Ids::no_place))]
 pub fn word_at(segment: &Segment<'_>, element: usize) -> Result<Word, ItemFault>
     ensures { Reads result (at_element element (word_of (element_of segment.now element))) (λ v. v ≡ said [] (word_of (element_of segment.now element))) }
 {
-    in_element(element, read_word(segment.element(element)))
+    let text = segment.element(element);
+    if text.len() > WORD_BYTES {
+        return too_long(element, text.len());
+    }
+    Ok(Word::new(text))
 }
 
 /// A mandatory word.
+#[tactic(auto, using(crate::proofs::Ids::no_place))]
 pub fn filled_word_at(segment: &Segment<'_>, element: usize) -> Result<Word, ItemFault>
     ensures { Reads result (at_element element (filled_word_of (element_of segment.now element))) (λ v. v ≡ said [] (filled_word_of (element_of segment.now element))) }
 {
-    in_element(element, read_filled_word(segment.element(element)))
+    let text = segment.element(element);
+    if text.is_empty() {
+        return Err(ItemFault::Value {
+            element,
+            fault: ValueFault::Empty,
+        });
+    }
+    if text.len() > WORD_BYTES {
+        return too_long(element, text.len());
+    }
+    Ok(Word::new(text))
+}
+
+fn too_long<T>(element: usize, length: usize) -> Result<T, ItemFault>
+    ensures { result ≡ Err (ItemFault.Value element (TooLong length)) }
+{
+    Err(ItemFault::Value {
+        element,
+        fault: ValueFault::TooLong(length),
+    })
 }
 
 /// A mandatory word of at least `least` and at most `most` bytes.
-pub fn word_between_at(segment: &Segment<'_>, element: usize, least: usize, most: usize) -> Result<Word, ItemFault>
-    requires { most ≤ 35 }
+pub fn word_between_at(
+    segment: &Segment<'_>,
+    element: usize,
+    least: usize,
+    most: usize,
+) -> Result<Word, ItemFault>
+    requires { most ≤ WORD_BYTES }
     ensures { Reads result (at_element element (word_between least most (element_of segment.now element))) (λ v. v ≡ said [] (word_between least most (element_of segment.now element))) }
 {
     in_element(element, read_word_between(segment.element(element), least, most))
