@@ -19,3 +19,5 @@ pub mod Stepping
 pub mod Cutting
 pub mod Refused
 pub mod Ordered
+pub mod Stops
+pub mod Walk

@@ -74,12 +74,13 @@ taken_full ends place full = take_at ends (place ∷ []) 32 full
 
 -- up to this place no byte is outside, and these are the first ends
 pub record Scanned (front found : List ℕ) (place : ℕ) : Type 0 where
+  pub within : place ≤ length front
   pub ends : found ≡ take 32 (stars_from 0 (take place front))
   pub inside : (k : ℕ) → k < place → is_outside (get_or front k 0) ≡ false
 
 pub scanned_none : (front ends : List ℕ) → ends ≡ [] → Scanned front ends 0
 unfolding stars_from
-scanned_none front ends e = record { ends = e; inside = λ k under. absurd (omega arith) }
+scanned_none front ends e = record { within = omega arith; ends = e; inside = λ k under. absurd (omega arith) }
 
 stars_more : (front : List ℕ) (place : ℕ) → place < length front → stars_from 0 (take (place + 1) front) ≡ stars_from 0 (take place front) ++ cond (is_star (get_or front place 0)) (place ∷ []) []
 stars_more front place within =
@@ -98,22 +99,20 @@ pub scanned_star : (front ends : List ℕ) (place : ℕ) → Scanned front ends 
 scanned_star front ends place s within star =
     let is = star_inside (get_or front place 0) star in
     let more : stars_from 0 (take (place + 1) front) ≡ stars_from 0 (take place front) ++ place ∷ [] = rw is.1 at (stars_more front place within) in
-    record { ends = rw (s.ends, more) (take_push 32 (stars_from 0 (take place front)) place); inside = below_more _ _ s.inside is.0 }
+    record { within = omega arith; ends = rw (s.ends, more) (take_push 32 (stars_from 0 (take place front)) place); inside = below_more _ _ s.inside is.0 }
 
 pub scanned_other : (front ends : List ℕ) (place : ℕ) → Scanned front ends place → place < length front → is_outside (get_or front place 0) ≡ false → (get_or front place 0 ≡ 42 → ⊥) → Scanned front ends (place + 1)
 scanned_other front ends place s within inside other =
     let is = no_star (get_or front place 0) other in
     let more : stars_from 0 (take (place + 1) front) ≡ stars_from 0 (take place front) ++ [] = rw is at (stars_more front place within) in
-    record { ends = s.ends ∙ ap (take 32) (sym (more ∙ append-nil (stars_from 0 (take place front)))); inside = below_more _ _ s.inside inside }
-
-pub behind_star : (byte : ℕ) → (42 < byte) × (byte ≤ 0x7E) → (is_outside byte ≡ false) × (byte ≡ 42 → ⊥)
-behind_star byte h = let low = h.0 in let high = h.1 in (grind (arith, nat_tests), λ e. omega arith)
+    record { within = omega arith; ends = s.ends ∙ ap (take 32) (sym (more ∙ append-nil (stars_from 0 (take place front)))); inside = below_more _ _ s.inside inside }
 
 -- at the first byte that is outside, or at the end, all parts are found
-pub scanned_all : (front ends : List ℕ) (place : ℕ) → Scanned front ends place → place ≤ length front → (place < length front → is_outside (get_or front place 0) ≡ true)
+pub scanned_all : (front ends : List ℕ) (place : ℕ) → Scanned front ends place → (place < length front → is_outside (get_or front place 0) ≡ true)
     → (body_length front ≡ place) × (take 32 (ends ++ place ∷ []) ≡ take 32 (ends_from 0 (parts_of front)))
 unfolding parts_of
-scanned_all front ends place s within here =
+scanned_all front ends place s here =
+    let within = s.within in
     let found : body_length front ≡ place = position_or_len_is is_outside front place 0 within s.inside here in
     let long : 0 + length (take place front) ≡ place = omega (arith, length-take-le place front) in
     let all : ends_from 0 (slice_split is_star (take place front)) ≡ stars_from 0 (take place front) ++ place ∷ [] =

@@ -34,3 +34,6 @@ pub use segment_reader::SegmentReader;
 pub use set_fault::{SetFault, SetReason};
 pub use stated::{Closed, StatedTotals};
 
+
+#[cfg(test)]
+mod tests;
