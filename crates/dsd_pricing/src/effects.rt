@@ -1,0 +1,76 @@
+//! What allowances and charges change of an amount.
+
+ghost use Rattle.std.specs.Prelude.{◌≡◌, ◌≤◌, ◌≤ℤ◌, ◌*◌, ◌+◌, ◌^◌, ℤ, pos, All, IsSome, bytes_eq, unwrap_or};
+ghost use Rattle.dsd_pricing.specs.Bounds.{IsWithin, most_effect, most_effects};
+ghost use Rattle.dsd_pricing.specs.Pricing.{HasSize, HasSizeIn, effect, effect_in, effects, share, size};
+
+use crate::extensions::extension;
+use dsd_values::{Allowance, Extra, Percent, Quantity};
+
+/// What an allowance changes of a basis in cents: method `02` lowers it, `06` raises it, and every
+/// other changes nothing. The quantity counts where a rate does and the allowance has none itself.
+pub fn effect_of(allowance: &Allowance, basis: u64, quantity: Option<Quantity>) -> i128
+    requires { HasSize allowance.now quantity }
+    ensures value { result ≡ effect allowance.now basis quantity }
+    ensures within { IsWithin (most_effect basis) result }
+{
+    if has_method(allowance, b"02") {
+        -size_of(allowance, basis, quantity)
+    } else if has_method(allowance, b"06") {
+        size_of(allowance, basis, quantity)
+    } else {
+        0
+    }
+}
+
+/// What all of these extras change of a basis in cents. A note changes nothing.
+pub fn effects_of(extras: &[Extra], basis: u64, quantity: Option<Quantity>) -> i128
+    requires sizes { All (HasSizeIn quantity) extras.now }
+    requires small { basis ≤ 10_000_000_000_000_000 }
+    ensures value { result ≡ effects extras.now basis quantity }
+    ensures within { IsWithin (most_effects basis) result }
+{
+    let mut sum = 0;
+    for extra in extras {
+        sum += extra_effect(extra, basis, &quantity);
+    }
+    sum
+}
+
+fn extra_effect(extra: &Extra, basis: u64, quantity: &Option<Quantity>) -> i128
+    requires { HasSizeIn quantity.now extra.now }
+    ensures value { result ≡ effect_in basis quantity.now extra.now }
+    ensures within { IsWithin (most_effect basis) result }
+{
+    match extra {
+        Extra::Allow(allowance) => effect_of(allowance, basis, *quantity),
+        Extra::Note(_) => 0,
+    }
+}
+
+fn has_method(allowance: &Allowance, code: &[u8]) -> bool
+    ensures { result ≡ bytes_eq allowance.now.method code.now }
+{
+    allowance.method.as_slice() == code
+}
+
+fn size_of(allowance: &Allowance, basis: u64, quantity: Option<Quantity>) -> i128
+    requires { IsSome (size allowance.now basis quantity) }
+    ensures value { result ≡ pos (unwrap_or (size allowance.now basis quantity) 0) }
+    ensures within { result ≤ℤ pos (most_effect basis) }
+{
+    if let Some(total) = allowance.total {
+        i128::from(total.get())
+    } else if let Some(rate) = allowance.rate {
+        i128::from(extension(allowance.quantity.or(quantity).unwrap(), rate))
+    } else {
+        share_of(basis, allowance.percent.unwrap())
+    }
+}
+
+fn share_of(basis: u64, percent: Percent) -> i128
+    ensures value { result ≡ pos (share basis percent) }
+    ensures within { result ≤ℤ pos (10 * basis) }
+{
+    ((u128::from(basis) * u128::from(percent.get()) + 5_000) / 10_000) as i128
+}
