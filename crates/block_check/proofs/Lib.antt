@@ -1,1 +1,2 @@
-mod ByTable
+mod Remainders
+mod Steps

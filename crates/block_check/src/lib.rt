@@ -3,7 +3,7 @@
 
 mod check;
 mod running;
-mod table;
+mod tables;
 #[cfg(test)]
 mod tests;
 

@@ -1,7 +1,9 @@
 -- Which answers may come of which words and input, and their statuses.
-use Rattle.std.specs.Prelude.{◌≡◌, ◌⊎◌, ◌≢◌, ℕ, ◌+◌, ◌<◌, ◌≤◌, List, ◌++◌, length, Option, Some}
+use Rattle.std.specs.Prelude.{◌≡◌, ◌⊎◌, ◌≢◌, ℕ, Bool, if◌then◌else◌, ◌+◌, ◌<◌, ◌≤◌, List, ◌++◌, length, Option, Some}
 use Rattle.std.specs.Io.KnownBytes.{Consumes, IsAtEnd}
+use Rattle.std.specs.List.{list_any}
 use Rattle.dsd_station.specs.Causes.{Rose}
+use Rattle.dex_line.specs.Captured.{frames_in, is_refused}
 use Rattle.segments.specs.declared.seal.Seal.{Seal}
 use Rattle.segments.specs.declared.set_fault.SetReason.{SetReason}
 use Rattle.segments.specs.declared.set_fault.SetReason.TheVariants as reasons
@@ -41,10 +43,20 @@ ChecksSet input answers.Words = ⊥
 ChecksSet input answers.SourceFault = ⊥
 ChecksSet input (answers.Refused place reason) = IsTooLong input place reason ⊎ IsRefused input place reason
 ChecksSet input (answers.Set summary) = (length input ≤ INPUT_BYTES) × IsPlain894 summary.base summary.seal summary.amount input
+ChecksSet input (answers.Line captured) = ⊥
+
+-- What `check line` answers to an input: its frames are found when they are printed.
+abbrev pub ChecksLine : List ℕ → Answer → Type 0
+ChecksLine input answers.Words = ⊥
+ChecksLine input answers.SourceFault = ⊥
+ChecksLine input (answers.Refused place reason) = IsTooLong input place reason
+ChecksLine input (answers.Set summary) = ⊥
+ChecksLine input (answers.Line captured) = (length input ≤ INPUT_BYTES) × (captured.items ≡ input)
 
 -- What a job answers to an input.
 abbrev pub Answered : Job → List ℕ → Answer → Type 0
 Answered (jobs.Check checks.Set) input answer = ChecksSet input answer
+Answered (jobs.Check checks.Line) input answer = ChecksLine input answer
 
 -- what was left in the source before and after, and its count of faults before and after
 pub record Read : Type 0 where
@@ -63,9 +75,15 @@ MayAnswer words read answers.Words = ((job : Job) → words ≢ words_of job) ×
 MayAnswer words read answers.SourceFault = ((job : Job) × (words ≡ words_of job)) × Rose read.faults read.faults_after
 MayAnswer words read (answers.Refused place reason) = IsJobs words read (answers.Refused place reason)
 MayAnswer words read (answers.Set summary) = IsJobs words read (answers.Set summary)
+MayAnswer words read (answers.Line captured) = IsJobs words read (answers.Line captured)
+
+-- a frame is damaged or bad
+abbrev pub has_refused : List ℕ → Bool
+has_refused bytes = list_any (λ frame. is_refused frame.1) (frames_in bytes)
 
 abbrev pub status_of : Answer → ℕ
 status_of (answers.Set summary) = DONE
 status_of answers.Words = WORDS_REFUSED
 status_of (answers.Refused place reason) = INPUT_REFUSED
 status_of answers.SourceFault = SOURCE_FAILED
+status_of (answers.Line captured) = if has_refused captured.items then INPUT_REFUSED else DONE

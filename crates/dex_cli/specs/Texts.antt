@@ -1,11 +1,13 @@
 -- The printed texts.
-use Rattle.std.specs.Prelude.{ℕ, ℤ, List, [], ◌∷◌, ◌++◌, length, codes}
+use Rattle.std.specs.Prelude.{ℕ, ℤ, Bool, true, false, ◌||◌, ◌==◌, if◌then◌else◌, List, [], ◌∷◌, ◌++◌, length, map, codes}
 use Rattle.std.specs.Fmt.{decimal, signed_decimal}
 use Rattle.dsd_values.specs.Writing.{check_text, day_text}
 use Rattle.dsd_values.specs.declared.fault.ValueFault.{ValueFault}
 use Rattle.dsd_values.specs.declared.fault.ValueFault.TheVariants as faults
 use Rattle.dsd_values.specs.declared.flag.Flag.{Flag}
 use Rattle.dsd_values.specs.declared.flag.Flag.TheVariants as flags
+use Rattle.dex_line.specs.Captured.{frames_in, is_refused}
+use Rattle.dex_line.specs.FrameShapes.{FrameShape, Enq, Ack0, Ack1, Nak, Eot, Header, Block, Damaged, Bad}
 use Rattle.segments.specs.declared.seal.Seal.{Seal}
 use Rattle.segments.specs.declared.segment_fault.SegmentFault.{SegmentFault}
 use Rattle.segments.specs.declared.segment_fault.SegmentFault.TheVariants as segment_faults
@@ -72,6 +74,36 @@ reason_text (reasons.Check said computed) = both (codes "CHECK") (both (check_te
 reason_text (reasons.Count said found) = both (codes "COUNT") (both (decimal said) (decimal found))
 reason_text reasons.Control = codes "CONTROL"
 
+-- ---- frames
+
+-- CR and LF in a header are printed as `.`
+abbrev pub shown : ℕ → ℕ
+shown byte = if byte == 13 || (byte == 10) then 46 else byte
+
+-- a frame that is neither damaged nor bad
+abbrev pub frame_text : FrameShape → List ℕ
+frame_text Enq = codes "ENQ"
+frame_text Ack0 = codes "ACK0"
+frame_text Ack1 = codes "ACK1"
+frame_text Nak = codes "NAK"
+frame_text Eot = codes "EOT"
+frame_text (Header text) = both (codes "HEADER") (map shown text)
+frame_text (Block false text) = both (codes "BLOCK") (decimal (length text))
+frame_text (Block true text) = both (codes "LAST") (decimal (length text))
+frame_text Damaged = codes "DAMAGED"
+frame_text Bad = codes "BAD"
+
+-- one that is damaged or bad is refused with the place of its first byte
+abbrev pub frame_line : ℕ → FrameShape → List ℕ
+frame_line place Damaged = line (both (codes "REFUSED") (both (decimal place) (codes "DAMAGED")))
+frame_line place Bad = line (both (codes "REFUSED") (both (decimal place) (codes "BAD")))
+frame_line place shape = line (frame_text shape)
+
+-- a line for each frame, and `OK` where none is refused
+abbrev pub frames_text : List (ℕ × FrameShape) → List ℕ
+frames_text [] = line (codes "OK")
+frames_text (frame ∷ more) = frame_line frame.0 frame.1 ++ (if is_refused frame.1 then [] else frames_text more)
+
 -- ---- all that is printed for an answer
 
 unfoldable pub printed : Answer → List ℕ
@@ -79,3 +111,4 @@ printed answers.Words = line (codes "WORDS")
 printed answers.SourceFault = line (codes "FAULT SOURCE")
 printed (answers.Refused place reason) = line (both (codes "REFUSED") (both (decimal place) (reason_text reason)))
 printed (answers.Set summary) = summary_text summary
+printed (answers.Line captured) = frames_text (frames_in captured.items)

@@ -7,3 +7,4 @@ use Rattle.dex_cli.specs.declared.words.CheckKind.TheVariants as checks
 
 abbrev pub words_of : Job → List (List ℕ)
 words_of (jobs.Check checks.Set) = codes "check" ∷ codes "set" ∷ []
+words_of (jobs.Check checks.Line) = codes "check" ∷ codes "line" ∷ []

@@ -4,6 +4,7 @@ ghost use Rattle.std.specs.Prelude.{◌≡◌};
 ghost use Rattle.dex_cli.specs.Answers.{status_of};
 
 use crate::status::{DONE, INPUT_REFUSED, SOURCE_FAILED, WORDS_REFUSED};
+use crate::check_line::has_refused;
 use crate::summary::SetSummary;
 use segments::SetReason;
 
@@ -18,6 +19,8 @@ pub enum Answer {
     Refused { place: usize, reason: SetReason },
     /// The input is this base record.
     Set(SetSummary),
+    /// The input is these bytes, captured from one direction of the line.
+    Line(Vec<u8>),
 }
 
 impl Answer {
@@ -30,6 +33,8 @@ impl Answer {
             Answer::Words => WORDS_REFUSED,
             Answer::Refused { .. } => INPUT_REFUSED,
             Answer::SourceFault => SOURCE_FAILED,
+            Answer::Line(captured) if has_refused(captured) => INPUT_REFUSED,
+            Answer::Line(_) => DONE,
         }
     }
 }

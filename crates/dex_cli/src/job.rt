@@ -8,6 +8,7 @@ ghost use Rattle.dex_cli.specs.Answers.{Read, MayAnswer, Answered, status_of};
 ghost use Rattle.dex_cli.specs.declared.answer.Answer.{Answer as AnswerValue};
 
 use crate::answer::Answer;
+use crate::check_line::check_line;
 use crate::check_set::check_set;
 use crate::report::text_of;
 use crate::status::{NO_MEMORY, SINK_FAILED};
@@ -54,18 +55,19 @@ fn answer<S: Source>(alloc: Global, words: &[String], source: &mut S) -> Result<
         Err(WordsFault::Memory) => return Err(AllocError),
     };
     match read_up_to(alloc, source, INPUT_BYTES + 1) {
-        Ok(input) => judge(alloc, &job, &input),
+        Ok(input) => judge(alloc, &job, input),
         Err(ReadFault::Failed) => Ok(Answer::SourceFault),
         Err(ReadFault::Memory) => Err(AllocError),
     }
 }
 
 /// The answer of a job to its input.
-fn judge(alloc: Global, job: &Job, input: &[u8]) -> Result<Answer, AllocError>
-    ensures { IfOk result (Answered job.now input.now) }
+fn judge(alloc: Global, job: &Job, input: Vec<u8>) -> Result<Answer, AllocError>
+    ensures { IfOk result (Answered job.now input.items) }
 {
     match job {
-        Job::Check(CheckKind::Set) => check_set(alloc, input),
+        Job::Check(CheckKind::Set) => check_set(alloc, &input),
+        Job::Check(CheckKind::Line) => Ok(check_line(input)),
     }
 }
 

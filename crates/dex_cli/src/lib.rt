@@ -2,6 +2,7 @@
 #![tactic(auto)]
 
 mod answer;
+mod check_line;
 mod check_set;
 mod job;
 pub mod laws;

@@ -5,6 +5,7 @@ ghost use Rattle.std.specs.Fmt.{decimal, signed_decimal};
 ghost use Rattle.dex_cli.specs.Texts.{line, both, printed};
 
 use crate::answer::Answer;
+use crate::check_line::put_frames;
 use crate::reasons::put_reason;
 use crate::summary::put_summary;
 use std::alloc::{AllocError, Global};
@@ -71,6 +72,7 @@ fn put_answer(alloc: Global, out: &mut Vec<u8>, answer: &Answer) -> Result<(), A
             put(out, "\n")
         }
         Answer::Set(summary) => put_summary(alloc, out, summary),
+        Answer::Line(captured) => put_frames(alloc, out, captured),
     }
 }
 

@@ -1,10 +1,8 @@
 //! The words of the command line.
 
-ghost use Rattle.std.specs.Prelude.{◌≡◌, ◌≢◌, ◌↔◌, IfOk, IsTrue, IsErrOf, map, string_bytes};
+ghost use Rattle.std.specs.Prelude.{◌≡◌, ◌≢◌, ◌↔◌, IfOk, IsTrue, IsErrOf, map, string_bytes, [], ◌∷◌};
 ghost use Rattle.dex_cli.specs.Words.{words_of};
 ghost use Rattle.dex_cli.specs.declared.words.Job.{Job as JobValue};
-ghost use Rattle.dex_cli.specs.declared.words.Job.TheVariants as jobs;
-ghost use Rattle.dex_cli.specs.declared.words.CheckKind.TheVariants as checks;
 
 use std::alloc::Global;
 use thiserror::Error;
@@ -14,12 +12,14 @@ use thiserror::Error;
 pub enum CheckKind {
     /// One set.
     Set,
+    /// The bytes captured from one direction of the line.
+    Line,
 }
 
 /// What the program is to do.
 #[derive(Debug, PartialEq, Eq, Drop)]
 pub enum Job {
-    /// `check set`: reads the source and prints what stands in it.
+    /// `check set`, `check line`: reads the source and prints what stands in it.
     Check(CheckKind),
 }
 
@@ -39,18 +39,21 @@ pub fn read_words(_alloc: Global, words: &[String]) -> Result<Job, WordsFault>
     ensures found { IfOk result (λ job. map string_bytes words.now ≡ words_of job) }
     ensures refused { IsErrOf result WordsFault.Refused → (job : JobValue) → map string_bytes words.now ≢ words_of job }
 {
-    if is_check_set(words) {
+    if are(words, "check", "set") {
         Ok(Job::Check(CheckKind::Set))
+    } else if are(words, "check", "line") {
+        Ok(Job::Check(CheckKind::Line))
     } else {
         Err(WordsFault::Refused)
     }
 }
 
-fn is_check_set(words: &[String]) -> bool
-    ensures { IsTrue result ↔ (map string_bytes words.now ≡ words_of (jobs.Check checks.Set)) }
+/// Whether the words are these two.
+fn are(words: &[String], first: &str, second: &str) -> bool
+    ensures { IsTrue result ↔ (map string_bytes words.now ≡ first.now ∷ second.now ∷ []) }
 {
     match words {
-        [first, second] => first.as_str() == "check" && second.as_str() == "set",
+        [one, two] => one.as_str() == first && two.as_str() == second,
         _ => false,
     }
 }

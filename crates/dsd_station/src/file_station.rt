@@ -60,8 +60,10 @@ impl<'a, R: Files<File = File>> Station for FileStation<'a, R> {
     ghost faults = { λ s. s.faults };
 
     /// Opens the journal for reading and writing, making it where it is missing, and asks for a lock on it. Where
-    /// another run holds the lock it fails.
+    /// another run holds the lock it fails. What was attached before is let go first.
     fn attach(&mut self, journal: &str, port: &str) -> Result<(), Failed> {
+        self.journal = None;
+        self.port = None;
         let opened = open_both(self.files, journal, port);
         let (journal, port) = self.answer(opened)?;
         self.journal = Some(journal);

@@ -1,6 +1,7 @@
 use crate::{Failed, FileStation, Heard, MemoryStation, Pick, Station};
-use std::fs;
+use std::rt::Files;
 use std::test::Fail;
+use std::{fs, io};
 
 // A dot stands for a byte 0.
 fn is_shown(bytes: &[u8], text: &str) -> bool {
@@ -9,17 +10,16 @@ fn is_shown(bytes: &[u8], text: &str) -> bool {
             == if shown == b'.' { 0 } else { shown })
 }
 
-fn five_calls(station: &mut MemoryStation) -> Result<(), Failed> {
-    station.attach("journal", "")?;
-    let place = station.size()?;
-    if place == 0 {
-        station.write_at(place, b"abcd")?;
-    }
+fn write_at_end<T: Station>(station: &mut T, back: u64, bytes: &[u8]) -> Result<(), Failed> {
+    let size = station.size()?;
+    station.write_at(size.saturating_sub(back), bytes)
+}
+
+fn five_calls<T: Station>(station: &mut T) -> Result<(), Failed> {
+    station.attach("test_journal", "")?;
+    write_at_end(station, 0, b"abcd")?;
     station.sync()?;
-    let place = station.size()?;
-    if place == 4 {
-        station.write_at(place - 2, b"WXYZ")?;
-    }
+    write_at_end(station, 2, b"WXYZ")?;
     station.speak(b"hello")?;
     station.sync()
 }
@@ -45,12 +45,22 @@ fn a_stop_leaves_what_its_pick_takes(rt: HostRuntime) {
     ] {
         let mut station = MemoryStation::new(rt.alloc());
         station.arm_stop(number, pick);
-        assert_eq!(rt; five_calls(&mut station), Err(Failed), "at {number}");
-        assert!(rt; is_shown(station.image(), image), "at {number}");
-        assert!(rt; is_shown(station.spoken(), spoken), "at {number}");
-        assert_eq!(rt; station.size(), Err(Failed), "at {number}");
-        assert!(rt; !station.starved());
+        let answer = five_calls(&mut station);
+        let holds = answer.is_err()
+            && is_shown(station.image(), image)
+            && is_shown(station.spoken(), spoken)
+            && station.size().is_err()
+            && !station.starved();
+        assert!(rt; holds, "at {number}");
     }
+}
+
+fn go_on<T: Station>(station: &mut T) -> Result<bool, Failed> {
+    let mut into = [0u8; 64];
+    let heard = station.listen(&mut into)?;
+    let count = station.read_at(2, &mut into)?;
+    station.speak(b"y")?;
+    Ok(heard == Heard::Quiet && is_shown(&into[..count], "WX.."))
 }
 
 #[test]
@@ -59,37 +69,35 @@ fn a_restart_works_over_what_a_stop_left(rt: HostRuntime) -> Result<(), Fail> {
     station.feed(b"unheard")?;
     station.arm_fail(4);
     station.arm_stop(4, Pick::Half);
-    assert_eq!(rt; five_calls(&mut station), Err(Failed));
+    let stopped = five_calls(&mut station).is_err();
     station.restart()?;
-    let mut into = [0u8; 64];
-    assert_eq!(rt; station.listen(&mut into), Ok(Heard::Quiet));
-    assert_eq!(rt; station.read_at(2, &mut into), Ok(4));
-    assert!(rt; is_shown(&into[..4], "WX.."));
-    assert_eq!(rt; station.read_at(6, &mut into), Ok(0));
-    assert_eq!(rt; station.speak(b"y"), Ok(()));
-    station.arm_fail(2);
-    station.restart()?;
-    station.arm_stop(3, Pick::Drop);
-    assert_eq!(rt; station.speak(b"es"), Ok(()));
-    assert_eq!(rt; station.sync(), Err(Failed));
-    assert_eq!(rt; station.sync(), Err(Failed));
-    assert!(rt; is_shown(station.image(), "abWX.."));
-    assert!(rt; is_shown(station.spoken(), "heyes"));
+    let went_on = go_on(&mut station)?;
+    assert!(rt; stopped && went_on && is_shown(station.spoken(), "hey"));
     Ok(())
 }
 
 #[test]
-fn a_failure_is_passed_over_and_can_be_taken_away(rt: HostRuntime) -> Result<(), Fail> {
+fn a_restart_keeps_what_is_not_synced(rt: HostRuntime) -> Result<(), Fail> {
+    let mut station = MemoryStation::new(rt.alloc());
+    write_at_end(&mut station, 0, b"abcd")?;
+    station.arm_stop(1, Pick::Drop);
+    station.restart()?;
+    let stopped = station.sync().is_err();
+    assert!(rt; stopped && is_shown(station.image(), "...."));
+    Ok(())
+}
+
+#[test]
+fn a_failure_is_passed_over_and_can_be_taken_away(rt: HostRuntime) {
     let mut station = MemoryStation::new(rt.alloc());
     station.arm_fail(3);
-    assert_eq!(rt; five_calls(&mut station), Err(Failed));
+    let failed = five_calls(&mut station).is_err();
     station.arm_fail(1);
     station.disarm();
-    station.restart()?;
-    station.arm_stop(1, Pick::Keep);
-    assert_eq!(rt; station.sync(), Err(Failed));
-    assert!(rt; is_shown(station.image(), "abcd"));
-    Ok(())
+    station.arm_stop(2, Pick::Keep);
+    let worked = station.sync().is_ok();
+    let stopped = station.sync().is_err();
+    assert!(rt; failed && worked && stopped && is_shown(station.image(), "abcd"));
 }
 
 #[test]
@@ -116,24 +124,31 @@ fn what_was_fed_is_heard_in_its_order(rt: HostRuntime) -> Result<(), Fail> {
     Ok(())
 }
 
+fn hear_and_answer<T: Station>(station: &mut T, port: &str) -> Result<bool, Failed> {
+    station.attach("test_journal", port)?;
+    let mut into = [0u8; 64];
+    let count = station.read_at(1, &mut into)?;
+    let read = is_shown(&into[..count], "bWXYZ");
+    let heard = station.listen(&mut into)?;
+    let quiet = station.listen(&mut into)?;
+    station.speak(b"d")?;
+    Ok(read && heard == Heard::Bytes(3) && quiet == Heard::Quiet && is_shown(&into[..3], "abc"))
+}
+
+fn take_away(files: &impl Files) -> io::Result<()> {
+    fs::remove_file(files, "test_journal")?;
+    fs::remove_file(files, "test_port")
+}
+
 #[test]
 fn a_file_and_a_port_are_a_station(rt: HostRuntime) -> Result<(), Fail> {
     fs::write(&rt, "test_port", "abc")?;
     let mut station = FileStation::new(&rt);
-    assert_eq!(rt; station.sync(), Err(Failed));
-    assert_eq!(rt; station.attach("no_such_folder/journal", ""), Err(Failed));
-    assert_eq!(rt; station.attach("test_journal", "test_port"), Ok(()));
-    assert_eq!(rt; station.write_at(0, b"hello"), Ok(()));
-    assert_eq!(rt; station.sync(), Ok(()));
-    assert_eq!(rt; station.size(), Ok(5));
-    let mut into = [0u8; 64];
-    assert_eq!(rt; station.read_at(1, &mut into), Ok(4));
-    assert!(rt; is_shown(&into[..4], "ello"));
-    assert_eq!(rt; station.listen(&mut into), Ok(Heard::Bytes(3)));
-    assert_eq!(rt; station.listen(&mut into), Ok(Heard::Quiet));
-    assert_eq!(rt; station.speak(b"d"), Ok(()));
-    assert_eq!(rt; fs::read_to_string(&rt, "test_port")?.as_str(), "abcd");
-    fs::remove_file(&rt, "test_journal")?;
-    fs::remove_file(&rt, "test_port")?;
+    let unattached = station.sync().is_err();
+    let no_port = five_calls(&mut station).is_err();
+    let works = hear_and_answer(&mut station, "test_port")?;
+    let said = fs::read_to_string(&rt, "test_port")?;
+    take_away(&rt)?;
+    assert!(rt; unattached && no_port && works && said.as_str() == "abcd");
     Ok(())
 }
