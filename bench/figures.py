@@ -1,0 +1,175 @@
+#!/usr/bin/env python3
+"""figures.py [PROGRAM]
+
+Makes large inputs, runs the program on each, and prints what it took: instructions (counted by
+callgrind), instructions a byte, and peak memory. It judges nothing and always ends with status 0.
+PROGRAM is crates/dex/out/dex where none is given.
+"""
+import os
+import re
+import shutil
+import subprocess
+import sys
+import tempfile
+import time
+
+HOME = os.path.dirname(os.path.dirname(os.path.abspath(__file__)))
+
+
+def remainder_table():
+    """The remainder of each byte: polynomial x^16 + x^15 + x^2 + 1, the lowest bit first."""
+    table = []
+    for value in range(256):
+        for _ in range(8):
+            value = value >> 1 ^ (0xA001 if value & 1 else 0)
+        table.append(value)
+    return table
+
+
+REMAINDERS = remainder_table()
+
+
+def check_of(data):
+    check = 0
+    for byte in data:
+        check = check >> 8 ^ REMAINDERS[(check ^ byte) & 0xFF]
+    return check
+
+
+def sealed(segments):
+    """The text of a set: its segments, then G85 with their check, then SE with their number."""
+    text = b"".join(segment.encode() + b"\r\n" for segment in segments)
+    trailer = "G85*%04X\r\nSE*%d*0001\r\n" % (check_of(text), len(segments) + 2)
+    return text + trailer.encode()
+
+
+def delivery(items, quantity, amount):
+    head = ["ST*894*0001", "G82*D*100001*****20240229", "LS*0100"]
+    totals = ["LE*0100", "G84*%d*%d" % (quantity, amount), "G86*JONES"]
+    return sealed(head + items + totals)
+
+
+def item(number, *more):
+    """A line of 12 units at 1.25, 1500 cents."""
+    words = ["G83", str(number), "12", "EA", "012345678905", "UP", "ITEM%05d" % number, "CS", "1.25", "24"]
+    return "*".join(words + list(more))
+
+
+def full_set():
+    """999 lines, the most that a delivery has, with all words filled and a long tail."""
+    items = [item(number, "L" * 30, "T" * 40, "X" * 132) for number in range(1, 1000)]
+    return delivery(items, 999 * 12, 999 * 1500)
+
+
+def set_with_allowances():
+    """400 lines with six allowances each: three that lower by 120 cents, three that raise by 150."""
+    items = []
+    for number in range(1, 401):
+        items.append(item(number, "L" * 30))
+        items += ["G72*90*02*1**.1*12*EA", "G72*91*06*1******10"] * 3
+    return delivery(items, 400 * 12, 400 * (1500 - 3 * 120 + 3 * 150))
+
+
+def refused_early():
+    """4 MB of whole segments, of which the second may not stand there."""
+    return b"ST*894*0001\r\n" + b"G83*1*12*EA*012345678905****1.25\r\n" * 123_000
+
+
+def captured_line():
+    """4.1 MB of one direction of a cable: turns of an enquiry, a reply, a block of 240 bytes that
+    others follow, a reply and the end."""
+    text = bytes(0x20 + place * 7 % 95 for place in range(240))
+    check = check_of(text + b"\x17")
+    block = b"\x10\x02" + text + b"\x10\x17" + check.to_bytes(2, "little")
+    turn = b"\x05" + b"\x10\x30" + block + b"\x10\x31" + b"\x04"
+    return turn * (4_100_000 // len(turn))
+
+
+INPUTS = [
+    ("set", ["check", "set"], full_set),
+    ("allowances", ["check", "set"], set_with_allowances),
+    ("refused", ["check", "set"], refused_early),
+    ("line", ["check", "line"], captured_line),
+]
+
+
+def full_pipe():
+    """A pipe that takes no byte more until it is read: its two ends, and how many bytes it holds."""
+    reading, writing = os.pipe()
+    os.set_blocking(writing, False)
+    held = 0
+    try:
+        while True:
+            held += os.write(writing, bytes(4096))
+    except BlockingIOError:
+        os.set_blocking(writing, True)
+        return reading, writing, held
+
+
+def peak_when_asleep(child):
+    """The most memory that a process has had, in KiB, told once it sleeps; None where it ends before."""
+    while child.poll() is None:
+        with open("/proc/%d/stat" % child.pid) as stat:
+            asleep = stat.read().rpartition(") ")[2].startswith("S")
+        with open("/proc/%d/status" % child.pid) as status:
+            peak = re.search(r"VmHWM:\s*(\d+)", status.read())
+        if asleep and peak:
+            return int(peak.group(1))
+        time.sleep(0.002)
+    return None
+
+
+def run(command, source):
+    """Runs a command on a file. Gives its status, its peak memory and its output. The peak is read
+    while the program waits to write its report into a full pipe: all that it needs it has by then."""
+    reading, writing, held = full_pipe()
+    with open(source, "rb") as standard_input:
+        child = subprocess.Popen(command, stdin=standard_input, stdout=writing)
+    os.close(writing)
+    peak = peak_when_asleep(child)
+    with open(reading, "rb") as report:
+        output = report.read()[held:]
+    return child.wait(), peak, output
+
+
+def instructions(command, source, folder):
+    """How many instructions callgrind counts, process start included, or None."""
+    if shutil.which("valgrind") is None:
+        return None
+    tool = ["valgrind", "--tool=callgrind", "--callgrind-out-file=" + os.path.join(folder, "callgrind.out")]
+    with open(source, "rb") as standard_input:
+        told = subprocess.run(
+            tool + command, stdin=standard_input, stdout=subprocess.DEVNULL, stderr=subprocess.PIPE
+        ).stderr.decode("latin-1")
+    found = re.search(r"Collected\s*:\s*(\d+)", told)
+    return int(found.group(1)) if found else None
+
+
+def measure(program, folder):
+    source = os.path.join(folder, "input")
+    print("%-11s %9s %13s %7s %9s %7s  %s" % ("input", "bytes", "instructions", "a byte", "peak KiB", "status", "last line"))
+    for name, words, make in INPUTS:
+        with open(source, "wb") as file:
+            size = file.write(make())
+        status, peak, output = run([program] + words, source)
+        count = instructions([program] + words, source, folder)
+        told = "-" if count is None else "%d" % count
+        each = "-" if count is None else "%.2f" % (count / size)
+        last = (output.splitlines() or [b"(nothing)"])[-1].decode("latin-1")
+        print("%-11s %9d %13s %7s %9s %7d  %s" % (name, size, told, each, peak or "-", status, last))
+
+
+def main():
+    program = os.path.abspath(sys.argv[1]) if len(sys.argv) > 1 else os.path.join(HOME, "crates", "dex", "out", "dex")
+    if not os.access(program, os.X_OK):
+        print("no program at", program, "- build it with: cd crates/dex && rt run -- check set < ../../examples/delivery.894")
+        return
+    with tempfile.TemporaryDirectory() as folder:
+        measure(program, folder)
+
+
+if __name__ == "__main__":
+    try:
+        main()
+    except Exception as fault:
+        print("no figures:", fault)
