@@ -12,3 +12,5 @@ pub mod Notes
 pub mod Cursors
 pub mod Placed
 pub mod Plans
+pub mod Stops
+pub mod Puts

@@ -19,6 +19,7 @@ mod source;
 mod standard;
 mod station;
 mod tape;
+mod through;
 mod writing;
 
 pub use arming::{ArmedFail, ArmedStop};
@@ -35,6 +36,7 @@ pub use sink::Sink;
 pub use source::Source;
 pub use standard::{StdSink, StdSource};
 pub use station::{Heard, Station};
+pub use through::write_through;
 pub use writing::write_all;
 
 #[cfg(test)]
