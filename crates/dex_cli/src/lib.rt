@@ -18,3 +18,5 @@ pub use status::NO_MEMORY;
 pub use summary::SetSummary;
 pub use words::{CheckKind, Job, WordsFault, read_words};
 
+#[cfg(test)]
+mod tests;
