@@ -19,3 +19,4 @@ pub mod Stepping
 pub mod Cutting
 pub mod Refused
 pub mod Ordered
+pub mod RightAllowances

@@ -14,3 +14,4 @@ pub mod Closing
 pub mod Order
 pub mod CutSpelling
 pub mod SegmentRefusal
+pub mod Allowances

@@ -1,6 +1,7 @@
 //! Segments of a text, and the machine that both sets are read by, one segment after another.
 #![tactic(auto)]
 
+mod allowance;
 mod closing;
 mod course;
 mod elements;
@@ -19,6 +20,7 @@ mod segment_reader;
 mod set_fault;
 mod stated;
 
+pub use allowance::read_allowance;
 pub use course::Course;
 pub use elements::{in_element, tail_at, word_at};
 pub use item::read_item;
