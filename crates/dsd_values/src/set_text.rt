@@ -29,6 +29,13 @@ impl SetText {
         }
     }
 
+    /// The text of these bytes.
+    pub fn from_bytes(bytes: Vec<u8>) -> SetText
+        ensures { result ≡ bytes.items }
+    {
+        SetText { bytes }
+    }
+
     pub fn push(&mut self, item: u8) -> Result<(), Memory>
         ensures ok { OnOk result (self.new ≡ self.old ++ item ∷ []) }
         ensures err { OnErr result (self.new ≡ self.old) }

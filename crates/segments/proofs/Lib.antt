@@ -20,3 +20,5 @@ pub mod Cutting
 pub mod Refused
 pub mod Ordered
 pub mod RightAllowances
+pub mod EmptyEnds
+pub mod Written

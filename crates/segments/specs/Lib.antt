@@ -15,3 +15,4 @@ pub mod Order
 pub mod CutSpelling
 pub mod SegmentRefusal
 pub mod Allowances
+pub mod SegmentWriting

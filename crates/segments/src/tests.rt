@@ -3,6 +3,7 @@ use std::alloc::{AllocError, Global};
 use std::test::Fail;
 
 mod allowances;
+mod written;
 
 #[test]
 fn lends_what_stands(rt: HostRuntime) -> Result<(), Fail> {
