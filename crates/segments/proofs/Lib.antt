@@ -21,3 +21,6 @@ pub mod Refused
 pub mod Ordered
 pub mod Stops
 pub mod Walk
+pub mod RightAllowances
+pub mod EmptyEnds
+pub mod Written

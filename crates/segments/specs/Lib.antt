@@ -14,3 +14,5 @@ pub mod Closing
 pub mod Order
 pub mod CutSpelling
 pub mod SegmentRefusal
+pub mod Allowances
+pub mod SegmentWriting

@@ -1,6 +1,7 @@
 //! Segments of a text, and the machine that both sets are read by, one segment after another.
 #![tactic(auto)]
 
+mod allowance;
 mod closing;
 mod course;
 mod elements;
@@ -16,9 +17,13 @@ mod segment;
 mod segment_body;
 mod segment_fault;
 mod segment_reader;
+mod segment_write_fault;
+mod segment_writer;
 mod set_fault;
 mod stated;
+mod writing_laws;
 
+pub use allowance::read_allowance;
 pub use course::Course;
 pub use elements::{in_element, tail_at, word_at};
 pub use item::read_item;
@@ -31,8 +36,11 @@ pub use seal::Seal;
 pub use segment::{SEGMENT_BYTES, SEGMENT_ELEMENTS, Segment};
 pub use segment_fault::SegmentFault;
 pub use segment_reader::SegmentReader;
+pub use segment_write_fault::{SEGMENT_WRITTEN, SegmentWriteFault};
+pub use segment_writer::SegmentWriter;
 pub use set_fault::{SetFault, SetReason};
 pub use stated::{Closed, StatedTotals};
+pub use writing_laws::written_segments_are_read;
 
 
 #[cfg(test)]

@@ -2,6 +2,9 @@ use super::*;
 use std::alloc::{AllocError, Global};
 use std::test::Fail;
 
+mod allowances;
+mod written;
+
 #[test]
 fn lends_what_stands(rt: HostRuntime) -> Result<(), Fail> {
     let mut reader = SegmentReader::new(b"ST*894*0001\r\nG22**A B~**\nLE*0100\n");
