@@ -68,9 +68,13 @@ fn size_of(allowance: &Allowance, basis: u64, quantity: Option<Quantity>) -> i12
     }
 }
 
+/// A percent of a basis, to the nearest cent. Half a cent goes up.
 fn share_of(basis: u64, percent: Percent) -> i128
     ensures value { result ≡ pos (share basis percent) }
     ensures within { result ≤ℤ pos (10 * basis) }
 {
-    ((u128::from(basis) * u128::from(percent.get()) + 5_000) / 10_000) as i128
+    // The whole ten-thousands need no rounding, so that no division is wider than a word.
+    let percent = u64::from(percent.get());
+    let whole = u128::from(basis / 10_000) * u128::from(percent);
+    (whole + u128::from((basis % 10_000 * percent + 5_000) / 10_000)) as i128
 }

@@ -10,3 +10,6 @@ pub use amounts::{Totals, amount_of, sum_of};
 pub use effects::effect_of;
 pub use extensions::extension;
 pub use fault::{PriceFault, WriteFault};
+
+#[cfg(test)]
+mod tests;
