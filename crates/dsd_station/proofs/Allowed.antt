@@ -1,12 +1,12 @@
 -- The image that a stop leaves is one that the station allows just then.
-use Rattle.std.proofs.Common.{◌≡◌, ℕ, ◌+◌, ◌≤◌, List, [], ◌∷◌, ◌++◌, length, max, refl, sym, ◌∙◌, ap, subst, arith, Option, Some, None, Ok, Err}
+use Rattle.std.proofs.Common.{◌≡◌, ℕ, ◌≤◌, List, [], ◌∷◌, ◌++◌, length, refl, sym, ◌∙◌, ap, subst, arith, Option, Some, None, Ok, Err}
 use Rattle.dsd_station.specs.declared.call.Pick.{Pick}
 use Rattle.dsd_station.specs.declared.call.Pick.TheVariants.{Keep}
 use Rattle.dsd_station.specs.declared.call.Outcome.TheVariants.{Done, Failing, Stopped}
 use Rattle.dsd_station.specs.declared.call.Call.{Call}
 use Rattle.dsd_station.specs.declared.call.Call.TheVariants.{Attach, Size, Read, Write, Sync, Listen, Speak, Restart}
 use Rattle.dsd_station.specs.Disk.{MayLeave, Torn, overwritten}
-use Rattle.dsd_station.specs.Replayed.{State, step, restarted, state_of, fresh, picked, applied, taken, IsFine}
+use Rattle.dsd_station.specs.Replayed.{State, step, restarted, fresh, picked, taken, IsFine}
 use Rattle.dsd_station.specs.Notes.{Fits}
 use Rattle.dsd_station.proofs.Overlay.{torn_applied, torn_same, length-applied, length-overwritten, taken_fewer, applied_all}
 use Rattle.dsd_station.proofs.Tying.{picked-push}

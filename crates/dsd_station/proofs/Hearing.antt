@@ -1,11 +1,10 @@
 -- What is due, from one place to the next.
-use Rattle.std.proofs.Common.{◌≡◌, ℕ, zero, suc, ◌+◌, ◌-◌, ◌≤◌, ◌<◌, min, nat_lt, if◌then◌else◌, Bool, true, false, List, [], ◌∷◌, ◌++◌, length, take, drop, map, replicate, get_or, refl, sym, ◌∙◌, ap, subst, arith, length-append, length-take, length-drop, append_assoc, append-nil, add-one, inl, inr, lit<}
-use Rattle.std.proofs.lemmas.List.{drop-map, map-append, length-map, drop-replicate, length-replicate, drop_at, take_at, take_all, drop-drop, take-append-drop, drop_all, drop-append-le}
+use Rattle.std.proofs.Common.{◌≡◌, ℕ, suc, ◌+◌, ◌-◌, ◌≤◌, ◌<◌, nat_lt, if◌then◌else◌, Bool, true, false, List, [], ◌∷◌, ◌++◌, length, take, drop, map, replicate, get_or, refl, sym, ◌∙◌, ap, subst, arith, length-take, length-drop, append_assoc, append-nil, add-one, inl, inr}
+use Rattle.std.proofs.lemmas.List.{drop-map, map-append, length-map, drop-replicate, length-replicate, drop_at, take_at, take_all, drop-drop, take-append-drop}
 use Rattle.std.proofs.Math.Seq.{drop-cons}
 use Rattle.std.proofs.lemmas.Bool.{cases_lt}
 use Rattle.std.proofs.lemmas.Bool.Decides.{nat_tests}
-use Rattle.dsd_station.specs.declared.call.Answer.{Answer}
-use Rattle.dsd_station.specs.declared.call.Answer.TheVariants.{Piece, Silence, Cut}
+use Rattle.dsd_station.specs.declared.call.Answer.TheVariants.{Piece}
 use Rattle.dsd_station.specs.declared.feeding.Fed.{Fed}
 use Rattle.dsd_station.specs.declared.feeding.Given.{Given}
 use Rattle.dsd_station.specs.declared.feeding.Given.TheVariants.{Bytes, Quiet, Unplugged}

@@ -1,15 +1,14 @@
 -- The plan and the record go along with what is due and what is armed.
-use Rattle.std.proofs.Common.{◌≡◌, ℕ, zero, suc, ◌+◌, ◌-◌, ◌≤◌, ◌<◌, ◌==◌, min, if◌then◌else◌, Bool, true, false, List, [], ◌∷◌, ◌++◌, length, drop, refl, sym, ◌∙◌, ap, subst, arith, Option, Some, None, Ok, Err, length-append, append_assoc, append-nil, add-one}
-use Rattle.std.proofs.lemmas.List.{drop-append-le, drop_all}
+use Rattle.std.proofs.Common.{◌≡◌, ℕ, ◌+◌, ◌-◌, ◌≤◌, ◌<◌, ◌==◌, if◌then◌else◌, Bool, true, false, List, [], ◌∷◌, ◌++◌, length, drop, refl, sym, ◌∙◌, ap, subst, arith, Option, Some, None, Ok, Err, length-append, append_assoc, append-nil}
+use Rattle.std.proofs.lemmas.List.{drop-append-le}
 use Rattle.std.proofs.lemmas.Bool.Decides.{nat_tests}
 use Rattle.dsd_station.specs.declared.arming.ArmedFail.{ArmedFail}
 use Rattle.dsd_station.specs.declared.arming.ArmedStop.{ArmedStop}
 use Rattle.dsd_station.specs.declared.feeding.Fed.{Fed}
-use Rattle.dsd_station.specs.declared.feeding.Given.{Given}
 use Rattle.dsd_station.specs.declared.port.Cursor.{Cursor}
 use Rattle.dsd_station.specs.declared.call.Call.{Call}
 use Rattle.dsd_station.specs.declared.call.Call.TheVariants.{Attach, Size, Read, Write, Sync, Listen, Speak, Restart}
-use Rattle.dsd_station.specs.Planned.{Due, dues_of, fed_at, left_due}
+use Rattle.dsd_station.specs.Planned.{Due, dues_of, fed_at}
 use Rattle.dsd_station.specs.ByPlan.{is_counted, counted_in, still_off, fail_off, stop_off, due_after, due_from, due_by}
 use Rattle.dsd_station.specs.Cursors.{due_of, due_behind, due_at, IsInPiece, IsIn}
 use Rattle.dsd_station.specs.Placed.{EachFedBy, FailArmedBy, StopArmedBy}

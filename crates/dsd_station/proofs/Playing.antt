@@ -1,12 +1,9 @@
 -- What holds of each station in memory holds after each call.
-use Rattle.std.proofs.Common.{◌≡◌, ℕ, ◌+◌, ◌-◌, ◌^◌, ◌≤◌, ◌<◌, min, List, [], ◌∷◌, ◌++◌, length, take, drop, Bool, true, false, if◌then◌else◌, is_some, refl, sym, ◌∙◌, ap, subst, arith, Option, Some, None, Result, Ok, Err, OnErr, length-append, append_assoc, append-nil, inl, inr, ◌⊎◌}
-use Rattle.std.proofs.lemmas.List.{take-append-drop, take-append-le, drop-append-le, drop_all, take_all}
-use Rattle.std.proofs.lemmas.Bool.Decides.{nat_tests}
+use Rattle.std.proofs.Common.{◌≡◌, ℕ, ◌+◌, ◌-◌, ◌^◌, ◌<◌, min, List, [], ◌∷◌, ◌++◌, length, take, drop, Bool, true, false, if◌then◌else◌, refl, sym, ◌∙◌, ap, subst, arith, Result, Ok, Err, length-append, append_assoc, append-nil, inl, inr}
+use Rattle.std.proofs.lemmas.List.{take-append-drop, take-append-le, drop-append-le, drop_all}
 use Rattle.dsd_station.specs.declared.failed.Failed.{Failed}
-use Rattle.dsd_station.specs.declared.call.Outcome.{Outcome}
-use Rattle.dsd_station.specs.declared.call.Outcome.TheVariants.{Done, Failing, Stopped}
 use Rattle.dsd_station.specs.declared.call.Call.{Call}
-use Rattle.dsd_station.specs.Causes.{HasCause, Rose}
+use Rattle.dsd_station.specs.Causes.{HasCause}
 use Rattle.dsd_station.specs.Feeds.{counted}
 use Rattle.dsd_station.specs.Planned.{Plan}
 use Rattle.dsd_station.specs.Told.{Told}

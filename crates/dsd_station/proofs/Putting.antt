@@ -1,12 +1,12 @@
 -- A write and a sync behind it.
-use Rattle.std.proofs.Common.{◌≡◌, ◌≤◌, ◌+◌, ℕ, List, [], ◌∷◌, ◌++◌, length, refl, sym, ◌∙◌, ap, subst, Result, Ok, Err, arith, inl, inr, ◌⊎◌, append_assoc, append-nil}
+use Rattle.std.proofs.Common.{◌≡◌, ℕ, List, [], ◌∷◌, ◌++◌, length, sym, ◌∙◌, ap, subst, Result, Ok, Err, arith, inl, inr, ◌⊎◌, append_assoc, append-nil}
 use Rattle.dsd_station.specs.declared.failed.Failed.{Failed}
 use Rattle.dsd_station.specs.declared.call.Call.{Call}
 use Rattle.dsd_station.specs.declared.call.Outcome.{Outcome}
 use Rattle.dsd_station.specs.declared.call.Call.TheVariants.{Write, Sync}
-use Rattle.dsd_station.specs.Disk.{overwritten, Torn, MayLeave}
-use Rattle.dsd_station.specs.Told.{Told, Moment, LeavesAt, Allows, EachStop, IsSynced}
-use Rattle.dsd_station.specs.Effects.{Passes, Stays, Writes, Syncs, AddsAs, written, synced, answer_of}
+use Rattle.dsd_station.specs.Disk.{Torn, MayLeave}
+use Rattle.dsd_station.specs.Told.{Told, Moment, Allows, EachStop, IsSynced}
+use Rattle.dsd_station.specs.Effects.{Passes, Stays, Writes, Syncs, AddsAs, written, synced}
 use Rattle.dsd_station.specs.Stops.{then, writes_stops, syncs_stops}
 use Rattle.dsd_station.specs.Puts.{Goes, Puts}
 use Rattle.dsd_station.proofs.Overlay.{torn_same}

@@ -1,5 +1,5 @@
 -- What a call in the record does is what the trait says of the call.
-use Rattle.std.proofs.Common.{◌≡◌, ◌≤◌, ◌<◌, ◌+◌, ◌-◌, ℕ, min, List, [], ◌∷◌, ◌++◌, length, take, drop, Bool, true, false, is_some, if◌then◌else◌, refl, sym, ap, subst, inl, inr, Option, Some, None, Result, Ok, Err, IfOk, arith, ◌∙◌, length-drop}
+use Rattle.std.proofs.Common.{◌≡◌, ◌≤◌, ◌-◌, ℕ, min, List, [], ◌∷◌, ◌++◌, length, take, drop, Bool, true, false, if◌then◌else◌, refl, sym, ap, subst, inl, inr, Result, Ok, Err, IfOk, arith, length-drop}
 use Rattle.dsd_station.specs.declared.failed.Failed.{Failed}
 use Rattle.dsd_station.specs.declared.station.Heard.{Heard}
 use Rattle.dsd_station.specs.declared.call.Answer.{Answer}
@@ -9,7 +9,7 @@ use Rattle.dsd_station.specs.declared.call.Call.{Call}
 use Rattle.dsd_station.specs.declared.call.Call.TheVariants.{Attach, Size, Read, Write, Sync, Listen, Speak}
 use Rattle.dsd_station.specs.Planned.{Plan}
 use Rattle.dsd_station.specs.Told.{Told}
-use Rattle.dsd_station.specs.Effects.{Same, Passes, Stays, Attaches, Reads, ReadsFront, Writes, Syncs, Listens, Speaks, answer_of, listened, heard_in}
+use Rattle.dsd_station.specs.Effects.{Same, Stays, Attaches, Reads, ReadsFront, Writes, Syncs, Listens, Speaks, answer_of, listened, heard_in}
 use Rattle.dsd_station.specs.Replayed.{State, step, told_from, taken}
 use Rattle.dsd_station.specs.Logged.{Log, Plays, told_by}
 use Rattle.dsd_station.specs.Replayed.{state_of}

@@ -8,7 +8,7 @@ use Rattle.dsd_station.specs.declared.call.Answer.TheVariants.{Piece, Silence, C
 use Rattle.dsd_station.specs.declared.call.Outcome.{Outcome}
 use Rattle.dsd_station.specs.declared.call.Outcome.TheVariants.{Done, Failing, Stopped}
 use Rattle.dsd_station.specs.declared.call.Call.{Call}
-use Rattle.dsd_station.specs.declared.call.Call.TheVariants.{Attach, Size, Read, Write, Sync, Listen, Speak}
+use Rattle.dsd_station.specs.declared.call.Call.TheVariants.{Attach, Write, Sync, Listen, Speak}
 use Rattle.dsd_station.specs.Disk.{overwritten, Torn}
 use Rattle.dsd_station.specs.Told.{Told, Moment}
 

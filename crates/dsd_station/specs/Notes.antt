@@ -1,5 +1,5 @@
 -- The calls that a station in memory only notes: its bytes stay as they were.
-use Rattle.std.specs.Prelude.{ℕ, ◌≤◌, ◌≡◌, length, Option, None}
+use Rattle.std.specs.Prelude.{◌≤◌, ◌≡◌, length, None}
 use Rattle.dsd_station.specs.declared.call.Outcome.TheVariants.{Done, Failing, Stopped}
 use Rattle.dsd_station.specs.declared.call.Call.{Call}
 use Rattle.dsd_station.specs.declared.call.Call.TheVariants.{Attach, Size, Read, Write, Sync, Listen, Speak, Restart}
@@ -20,17 +20,6 @@ IsNote s (Speak bytes Done) = ⊥
 IsNote s (Speak bytes Failing) = Unit {0}
 IsNote s (Speak bytes (Stopped pick)) = ⊥
 IsNote s Restart = s.left ≡ None
-
--- what the trait asks of a write
-abbrev pub IsWithin : State → Call → Type 0
-IsWithin s (Attach journal port answer) = Unit {0}
-IsWithin s (Size answer) = Unit {0}
-IsWithin s (Read at room answer) = Unit {0}
-IsWithin s (Write at bytes outcome) = at ≤ length s.journal
-IsWithin s (Sync outcome) = Unit {0}
-IsWithin s (Listen answer) = Unit {0}
-IsWithin s (Speak bytes outcome) = Unit {0}
-IsWithin s Restart = Unit {0}
 
 -- When a call can stand in a record: a write within the journal, and a sync that went well while the station works.
 abbrev pub Fits : State → Call → Type 0

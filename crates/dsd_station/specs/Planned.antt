@@ -1,5 +1,5 @@
 -- What a station was told beforehand, and what its port is due to give.
-use Rattle.std.specs.Prelude.{ℕ, ◌+◌, List, [], ◌∷◌, ◌++◌, length, take, drop, map, replicate, Bool, ◌==◌, if◌then◌else◌, Option, None}
+use Rattle.std.specs.Prelude.{ℕ, List, [], ◌∷◌, ◌++◌, length, take, drop, map, replicate, ◌==◌, if◌then◌else◌, Option, None}
 use Rattle.dsd_station.specs.declared.feeding.Fed.{Fed}
 use Rattle.dsd_station.specs.declared.feeding.Given.{Given}
 use Rattle.dsd_station.specs.declared.feeding.Given.TheVariants.{Bytes, Quiet, Unplugged}

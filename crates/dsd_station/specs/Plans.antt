@@ -1,12 +1,8 @@
 -- How the plan of a station in memory changes.
-use Rattle.std.specs.Prelude.{ℕ, ◌==◌, List, [], ◌∷◌, ◌++◌, length, Option, Some, None, if◌then◌else◌}
-use Rattle.dsd_station.specs.declared.arming.ArmedFail.{ArmedFail}
-use Rattle.dsd_station.specs.declared.arming.ArmedStop.{ArmedStop}
+use Rattle.std.specs.Prelude.{ℕ, ◌==◌, [], ◌∷◌, ◌++◌, length, Some, None, if◌then◌else◌}
 use Rattle.dsd_station.specs.declared.call.Pick.{Pick}
-use Rattle.dsd_station.specs.declared.call.Call.{Call}
 use Rattle.dsd_station.specs.declared.call.Call.TheVariants.{Restart}
 use Rattle.dsd_station.specs.declared.feeding.Given.{Given}
-use Rattle.dsd_station.specs.Planned.{Plan}
 use Rattle.dsd_station.specs.ByPlan.{fail_off, stop_off}
 use Rattle.dsd_station.specs.Logged.{Log, played, planned}
 

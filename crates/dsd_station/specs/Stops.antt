@@ -1,11 +1,11 @@
 -- What is said of each stop within calls in a row, and of each stop since a moment.
-use Rattle.std.specs.Prelude.{ℕ, suc, ◌+◌, ◌≤◌, ◌≡◌, ◌⊎◌, List, [], ◌∷◌, ◌++◌, length, take, drop, map, Result, Ok, Err, refl}
+use Rattle.std.specs.Prelude.{ℕ, suc, ◌≤◌, ◌≡◌, ◌⊎◌, List, [], ◌∷◌, ◌++◌, length, take, drop, map, Result, Ok, Err, refl}
 use Rattle.std.proofs.Common.{sym, ◌∙◌, ap, subst, inl, inr, append_assoc, arith}
 use Rattle.std.proofs.lemmas.List.{append-nil, drop_at, take_all}
 use Rattle.dsd_station.specs.declared.failed.Failed.{Failed}
 use Rattle.dsd_station.specs.declared.station.Heard.{Heard}
 use Rattle.dsd_station.specs.declared.call.Call.{Call}
-use Rattle.dsd_station.specs.Told.{Told, Moment, LeavesAt, LeavesIn, Leaves, Allows, EachAllows, EachStop, clock}
+use Rattle.dsd_station.specs.Told.{Told, Moment, LeavesIn, Leaves, Allows, EachAllows, EachStop, clock}
 use Rattle.dsd_station.specs.Effects.{Passes, Stays, Reads, Attaches, Listens, Writes, Syncs, Speaks, written, synced, sent, prefixes, sending}
 
 pub each_append : (xs ys : List Moment) (P : List ℕ → List ℕ → Type 0) → EachAllows xs P → EachAllows ys P → EachAllows (xs ++ ys) P

@@ -1,5 +1,5 @@
 -- What the fields of a tape have to do with its record.
-use Rattle.std.specs.Prelude.{ℕ, Bool, ◌≡◌, List, length, Option, Some, None, if◌then◌else◌}
+use Rattle.std.specs.Prelude.{ℕ, Bool, ◌≡◌, List, Some, None, if◌then◌else◌}
 use Rattle.dsd_station.specs.Replayed.{State, state_of}
 use Rattle.dsd_station.specs.declared.tape.Tape.TheInside.{Inside}
 

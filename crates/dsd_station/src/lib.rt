@@ -1,4 +1,5 @@
-//! The outside as the program sees it: sources, sinks, and the count of their faults.
+//! The outside as the program sees it: sources and sinks of bytes, and the station with its journal, its port and
+//! what a stop may leave of them. Each counts its faults.
 #![tactic(auto)]
 
 mod arming;

@@ -1,5 +1,5 @@
 ghost use Rattle.std.specs.Prelude.{◌≡◌, ◌≤◌, ◌<◌, ◌+◌, ◌^◌, ◌++◌, [], ◌∷◌, length, OnOk, OnErr, is_some};
-ghost use Rattle.dsd_station.specs.Notes.{IsNote, IsWithin};
+ghost use Rattle.dsd_station.specs.Notes.{Fits, IsNote};
 ghost use Rattle.dsd_station.specs.Replayed.{state_of, image_or};
 
 use crate::call::{Call, Outcome, Pick};
@@ -211,7 +211,7 @@ impl Tape {
 
     /// Adds a call, and does what it says.
     pub fn play(&mut self, call: Call) -> Result<(), AllocError>
-        requires { IsWithin (state_of self.old) call }
+        requires { Fits (state_of self.old) call }
         ensures ok { OnOk result (self.new ≡ self.old ++ call ∷ []) }
         ensures err { OnErr result (self.new ≡ self.old) }
     {

@@ -1,7 +1,7 @@
-use Rattle.std.proofs.Common.{◌-◌, List, ℕ, length, take, drop, map, sym, ap, ◌∙◌}
+use Rattle.std.proofs.Common.{List, ℕ, drop, map, sym, ap, ◌∙◌}
 use Rattle.std.proofs.lemmas.List.{drop-map, take_rest}
 use Rattle.dsd_station.specs.declared.feeding.Given.{Given}
-use Rattle.dsd_station.specs.Planned.{DueByte, Due, dues_of}
+use Rattle.dsd_station.specs.Planned.{DueByte, dues_of}
 use Rattle.dsd_station.proofs.port.bytes_of.Goals as goal
 
 pub returns-in-Bytes-clause-rest : goal.returns-in-Bytes-clause-rest

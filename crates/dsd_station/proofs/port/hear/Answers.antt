@@ -1,4 +1,3 @@
-use Rattle.std.proofs.Common.{rules, ◌≡◌, length}
 use Rattle.dsd_station.proofs.Hearing.{heard_bytes, left_behind_bytes}
 use Rattle.dsd_station.proofs.port.hear.Goals as goal
 

@@ -1,4 +1,4 @@
-use Rattle.std.proofs.Common.{rules, ◌≡◌, ◌+◌, ◌-◌, ◌<◌, ◌≤◌, ℕ, List, [], ◌∷◌, ◌++◌, length, take, drop, get_or, sym, ap, ◌∙◌, arith, length-take}
+use Rattle.std.proofs.Common.{rules, ◌≡◌, ◌+◌, ◌-◌, ◌≤◌, ℕ, List, ◌∷◌, ◌++◌, length, take, drop, get_or, ap, ◌∙◌, arith, length-take}
 use Rattle.std.proofs.lemmas.Slice.{take-put_mid}
 use Rattle.dsd_station.specs.declared.feeding.Fed.{Fed}
 use Rattle.dsd_station.proofs.Hearing.{here_at, heard_more, inside_more}

@@ -1,4 +1,4 @@
-use Rattle.std.proofs.Common.{◌≡◌, ℕ, ◌+◌, ◌-◌, ◌≤◌, List, ◌++◌, length, take, map}
+use Rattle.std.proofs.Common.{◌≡◌, ◌+◌, ◌-◌, ◌≤◌, ◌++◌, length, take, map}
 use Rattle.dsd_station.specs.Planned.{DueByte}
 use Rattle.dsd_station.specs.Cursors.{due_at, IsIn}
 use Rattle.dsd_station.proofs.port.take_bytes.Given as goal

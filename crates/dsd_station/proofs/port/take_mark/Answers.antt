@@ -1,7 +1,6 @@
-use Rattle.std.proofs.Common.{rules, ◌≡◌, ◌+◌, ◌<◌, ℕ, List, [], ◌∷◌, length, drop, get_or, sym, ap, ◌∙◌, arith}
+use Rattle.std.proofs.Common.{rules, ◌≡◌, ◌+◌, ◌<◌, ℕ, ◌∷◌, length, drop, get_or, sym, ap, ◌∙◌}
 use Rattle.dsd_station.specs.declared.feeding.Fed.{Fed}
-use Rattle.dsd_station.specs.Planned.{left_due}
-use Rattle.dsd_station.specs.Cursors.{due_at, IsMark}
+use Rattle.dsd_station.specs.Cursors.{due_at}
 use Rattle.dsd_station.proofs.Hearing.{here_at, mark_here, mark_heard_at, mark_left_at}
 use Rattle.dsd_station.proofs.port.take_mark.Goals as goal
 

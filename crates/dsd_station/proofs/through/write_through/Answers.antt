@@ -1,4 +1,4 @@
-use Rattle.std.proofs.Common.{subst, sym, Ok}
+use Rattle.std.proofs.Common.{subst}
 use Rattle.dsd_station.specs.Effects.{Writes}
 use Rattle.dsd_station.proofs.Putting.{puts_done}
 use Rattle.dsd_station.proofs.through.write_through.Goals as goal

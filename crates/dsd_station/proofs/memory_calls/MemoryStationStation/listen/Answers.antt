@@ -1,10 +1,9 @@
-use Rattle.std.proofs.Common.{rules, ◌≡◌, ◌≤◌, ◌-◌, ℕ, List, length, take, drop, min, Ok, Err, sym, ap, ◌∙◌, arith, length-take, IfOk}
-use Rattle.dsd_station.specs.declared.call.Call.TheVariants.{Attach, Size, Read, Write, Sync, Listen, Speak}
-use Rattle.dsd_station.specs.ByPlan.{outcome_by, due_by, unless_stopped}
-use Rattle.dsd_station.specs.Effects.{answer_of, listened}
+use Rattle.std.proofs.Common.{rules, Ok}
+use Rattle.dsd_station.specs.declared.call.Call.TheVariants.{Listen}
+use Rattle.dsd_station.specs.ByPlan.{due_by, unless_stopped}
+use Rattle.dsd_station.specs.Effects.{listened}
 use Rattle.dsd_station.specs.Logged.{Plays}
 use Rattle.dsd_station.specs.Planned.{heard_of}
-use Rattle.dsd_station.specs.Replayed.{state_of}
 use Rattle.dsd_station.proofs.Telling.{listens_told, refuses_told}
 use Rattle.dsd_station.proofs.memory_calls.MemoryStationStation.listen.Goals as goal
 

@@ -1,10 +1,8 @@
-use Rattle.std.proofs.Common.{rules, ◌≡◌, ◌≤◌, ◌-◌, ℕ, List, length, take, drop, min, Ok, Err, is_some, sym, ap, ◌∙◌, arith, length-take, IfOk}
+use Rattle.std.proofs.Common.{rules, ◌≡◌, ◌-◌, ℕ, List, length, take, drop, min, Ok, Err, is_some, ap, ◌∙◌, arith, length-take}
 use Rattle.dsd_station.specs.declared.call.Call.{Call}
-use Rattle.dsd_station.specs.declared.call.Call.TheVariants.{Attach, Size, Read, Write, Sync, Listen, Speak}
-use Rattle.dsd_station.specs.ByPlan.{outcome_by, due_by, unless_stopped}
-use Rattle.dsd_station.specs.Effects.{answer_of, listened}
+use Rattle.dsd_station.specs.declared.call.Call.TheVariants.{Read}
+use Rattle.dsd_station.specs.ByPlan.{unless_stopped}
 use Rattle.dsd_station.specs.Logged.{Plays}
-use Rattle.dsd_station.specs.Planned.{heard_of}
 use Rattle.dsd_station.specs.Replayed.{state_of}
 use Rattle.dsd_station.proofs.Telling.{read_told, read_keeps, reads_front, plays_answer}
 use Rattle.dsd_station.proofs.memory_calls.MemoryStationStation.read_at.Goals as goal

@@ -1,11 +1,10 @@
-use Rattle.std.proofs.Common.{rules, ◌≡◌, ◌≤◌, ℕ, List, [], ◌∷◌, ◌++◌, length, sym, ◌∙◌, ap, subst, arith}
+use Rattle.std.proofs.Common.{◌≡◌, ℕ, List, [], ◌∷◌, ◌++◌, length, sym, ◌∙◌, ap, subst, arith}
 use Rattle.dsd_station.specs.declared.feeding.Fed.{Fed}
 use Rattle.dsd_station.specs.Planned.{Due, dues_of}
 use Rattle.dsd_station.specs.ByPlan.{due_by}
 use Rattle.dsd_station.specs.Cursors.{due_at, IsIn}
 use Rattle.dsd_station.specs.Logged.{IsPlayed}
 use Rattle.dsd_station.specs.Placed.{log_of, EachFedBy}
-use Rattle.dsd_station.specs.Plans.{with_fed}
 use Rattle.dsd_station.proofs.Planning.{due_by-fed, due_at-append, is_in-append, fed_more}
 use Rattle.dsd_station.proofs.Playing.{planned_is}
 use Rattle.dsd_station.proofs.memory_station.MemoryStation.feed_one.Goals as goal

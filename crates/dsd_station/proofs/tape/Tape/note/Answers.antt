@@ -1,8 +1,6 @@
-use Rattle.std.proofs.Common.{rules, ◌≡◌, ℕ, List, [], ◌∷◌, ◌++◌, take, sym, ◌∙◌, ap, subst}
-use Rattle.dsd_station.specs.declared.call.Outcome.TheVariants.{Done, Stopped}
+use Rattle.std.proofs.Common.{List, sym, subst}
 use Rattle.dsd_station.specs.declared.call.Call.{Call}
-use Rattle.dsd_station.specs.declared.call.Call.TheVariants.{Write, Sync, Speak, Restart}
-use Rattle.dsd_station.specs.Replayed.{state_of, applied, taken, picked}
+use Rattle.dsd_station.specs.Replayed.{state_of}
 use Rattle.dsd_station.specs.Notes.{IsNote}
 use Rattle.dsd_station.proofs.Tying.{tied_push, note_tied}
 use Rattle.dsd_station.proofs.tape.Tape.note.Goals as goal

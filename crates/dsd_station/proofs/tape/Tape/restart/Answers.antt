@@ -1,9 +1,5 @@
-use Rattle.std.proofs.Common.{rules, ◌≡◌, ℕ, List, [], ◌∷◌, ◌++◌, take, sym, ◌∙◌, ap, subst, true}
-use Rattle.dsd_station.specs.declared.call.Outcome.TheVariants.{Done, Stopped}
-use Rattle.dsd_station.specs.declared.call.Call.{Call}
-use Rattle.dsd_station.specs.declared.call.Call.TheVariants.{Write, Sync, Speak, Restart}
-use Rattle.dsd_station.specs.Replayed.{state_of, applied, taken, picked}
-use Rattle.dsd_station.specs.Disk.{overwritten}
+use Rattle.std.proofs.Common.{rules, ◌≡◌, true}
+use Rattle.dsd_station.specs.declared.call.Call.TheVariants.{Restart}
 use Rattle.dsd_station.proofs.Tying.{tied_push, restart_tied}
 use Rattle.dsd_station.proofs.tape.Tape.restart.Goals as goal
 

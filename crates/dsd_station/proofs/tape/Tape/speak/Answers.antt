@@ -1,9 +1,7 @@
-use Rattle.std.proofs.Common.{rules, ◌≡◌, ℕ, List, [], ◌∷◌, ◌++◌, take, sym, ◌∙◌, ap, subst}
-use Rattle.dsd_station.specs.declared.call.Outcome.TheVariants.{Done, Stopped}
+use Rattle.std.proofs.Common.{ℕ, List, [], ◌∷◌, ◌++◌, ◌∙◌, ap}
+use Rattle.dsd_station.specs.declared.call.Outcome.TheVariants.{Done}
 use Rattle.dsd_station.specs.declared.call.Call.{Call}
-use Rattle.dsd_station.specs.declared.call.Call.TheVariants.{Write, Sync, Speak, Restart}
-use Rattle.dsd_station.specs.Replayed.{state_of, applied, taken, picked}
-use Rattle.dsd_station.specs.Disk.{overwritten}
+use Rattle.dsd_station.specs.declared.call.Call.TheVariants.{Speak}
 use Rattle.dsd_station.proofs.Tying.{tied_push, speak_tied}
 use Rattle.dsd_station.proofs.tape.Tape.speak.Goals as goal
 

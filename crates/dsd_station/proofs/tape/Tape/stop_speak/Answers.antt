@@ -1,9 +1,8 @@
-use Rattle.std.proofs.Common.{rules, ◌≡◌, ℕ, List, [], ◌∷◌, ◌++◌, take, length, sym, ◌∙◌, ap, subst}
-use Rattle.dsd_station.specs.declared.call.Outcome.TheVariants.{Done, Stopped}
+use Rattle.std.proofs.Common.{ℕ, List, [], ◌∷◌, ◌++◌, take, length, ◌∙◌, ap}
+use Rattle.dsd_station.specs.declared.call.Outcome.TheVariants.{Stopped}
 use Rattle.dsd_station.specs.declared.call.Call.{Call}
-use Rattle.dsd_station.specs.declared.call.Call.TheVariants.{Write, Sync, Speak, Restart}
-use Rattle.dsd_station.specs.Replayed.{state_of, applied, taken, picked}
-use Rattle.dsd_station.specs.Disk.{overwritten}
+use Rattle.dsd_station.specs.declared.call.Call.TheVariants.{Speak}
+use Rattle.dsd_station.specs.Replayed.{taken, picked}
 use Rattle.dsd_station.proofs.Tying.{tied_push, stop_speak_tied}
 use Rattle.dsd_station.proofs.tape.Tape.stop_speak.Goals as goal
 

@@ -1,9 +1,7 @@
-use Rattle.std.proofs.Common.{rules, ◌≡◌, ℕ, List, [], ◌∷◌, ◌++◌, take, length, sym, ◌∙◌, ap, subst}
-use Rattle.dsd_station.specs.declared.call.Outcome.TheVariants.{Done, Stopped}
-use Rattle.dsd_station.specs.declared.call.Call.{Call}
-use Rattle.dsd_station.specs.declared.call.Call.TheVariants.{Write, Sync, Speak, Restart}
-use Rattle.dsd_station.specs.Replayed.{state_of, applied, taken, picked}
-use Rattle.dsd_station.specs.Disk.{overwritten}
+use Rattle.std.proofs.Common.{ℕ, List, length, ◌∙◌, ap}
+use Rattle.dsd_station.specs.declared.call.Outcome.TheVariants.{Stopped}
+use Rattle.dsd_station.specs.declared.call.Call.TheVariants.{Write}
+use Rattle.dsd_station.specs.Replayed.{applied, taken, picked}
 use Rattle.dsd_station.proofs.Tying.{tied_push, stop_write_tied}
 use Rattle.dsd_station.proofs.tape.Tape.stop_write.Goals as goal
 

@@ -1,9 +1,6 @@
-use Rattle.std.proofs.Common.{rules, ◌≡◌, ℕ, List, [], ◌∷◌, ◌++◌, take, sym, ◌∙◌, ap, subst}
-use Rattle.dsd_station.specs.declared.call.Outcome.TheVariants.{Done, Stopped}
-use Rattle.dsd_station.specs.declared.call.Call.{Call}
-use Rattle.dsd_station.specs.declared.call.Call.TheVariants.{Write, Sync, Speak, Restart}
-use Rattle.dsd_station.specs.Replayed.{state_of, applied, taken, picked}
-use Rattle.dsd_station.specs.Disk.{overwritten}
+use Rattle.std.proofs.Common.{rules, ◌≡◌}
+use Rattle.dsd_station.specs.declared.call.Outcome.TheVariants.{Done}
+use Rattle.dsd_station.specs.declared.call.Call.TheVariants.{Sync}
 use Rattle.dsd_station.proofs.Tying.{tied_push, sync_tied}
 use Rattle.dsd_station.proofs.tape.Tape.sync.Goals as goal
 
