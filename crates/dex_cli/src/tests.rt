@@ -1,3 +1,5 @@
+ghost use Rattle.std.specs.Prelude.{None};
+
 use super::*;
 use dsd_station::{Failed, MemorySink, MemorySource, Source};
 use std::alloc::{AllocError, Global};
