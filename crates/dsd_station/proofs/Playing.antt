@@ -10,6 +10,7 @@ use Rattle.dsd_station.specs.Told.{Told}
 use Rattle.dsd_station.specs.Replayed.{State, step, state_of, told_from, IsFine}
 use Rattle.dsd_station.specs.ByPlan.{answered, EachAnswered}
 use Rattle.dsd_station.specs.Logged.{Log, told_by, has_failed, failed_in, is_refused, played, starving, planned, Plays, IsPlayed}
+use Rattle.dsd_station.proofs.Saying.{heard_is, gone_is}
 use Rattle.dsd_station.proofs.Tying.{state_push}
 use Rattle.dsd_station.specs.Notes.{Fits}
 use Rattle.dsd_station.proofs.Allowed.{fine_step}
@@ -40,13 +41,15 @@ played_is log c was is fits =
           (subst (λ l. EachAnswered log.plan (take since log.calls) l) (sym back) (each_push log.plan (take since log.calls) (drop since log.calls) c was.answers answer));
       faults = λ fed. count_more (has_failed c) log.faults (failed_in log.calls) (was.faults fed) ∙ ap (λ (n : ℕ). min n (2 ^ 64 - 1)) (sym (failed_in-push log.calls c));
       fine = subst IsFine (sym (state_push log.calls (log.calls ++ c ∷ []) c refl)) (fine_step (state_of log.calls) c was.fine fits);
+      heard = heard_is (log.calls ++ c ∷ []);
+      said = gone_is (log.calls ++ c ∷ []);
     }
 
 true_is_not_false : true ≡ false → ⊥
 true_is_not_false e = cc
 
 pub starving_is : (log : Log) → IsPlayed log → IsPlayed (starving log)
-starving_is log was = record { since = was.since; answers = was.answers; faults = λ fed. absurd (true_is_not_false fed); fine = was.fine }
+starving_is log was = record { since = was.since; answers = was.answers; faults = λ fed. absurd (true_is_not_false fed); fine = was.fine; heard = was.heard; said = was.said }
 
 pub planned_is : (log : Log) (plan : Plan) → IsPlayed log → IsPlayed (planned log plan)
 planned_is log plan was =
@@ -57,6 +60,8 @@ planned_is log plan was =
       answers = subst (λ l. EachAnswered now (take (length log.calls) log.calls) l) (sym none) tt;
       faults = was.faults;
       fine = was.fine;
+      heard = was.heard;
+      said = was.said;
     }
 
 -- what is told after a call, of what is told after it in the record and before it

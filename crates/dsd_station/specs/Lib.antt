@@ -6,6 +6,7 @@ pub mod Told
 pub mod Effects
 pub mod Replayed
 pub mod ByPlan
+pub mod Heard
 pub mod Logged
 pub mod Tied
 pub mod Notes

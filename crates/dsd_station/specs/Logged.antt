@@ -6,6 +6,7 @@ use Rattle.dsd_station.specs.declared.call.Outcome.TheVariants.{Done, Failing, S
 use Rattle.dsd_station.specs.declared.call.Call.{Call}
 use Rattle.dsd_station.specs.declared.call.Call.TheVariants.{Attach, Size, Read, Write, Sync, Listen, Speak, Restart}
 use Rattle.dsd_station.specs.Feeds.{counted}
+use Rattle.dsd_station.specs.Heard.{answers_in, said_in}
 use Rattle.dsd_station.specs.Planned.{Plan, no_plan}
 use Rattle.dsd_station.specs.Told.{Told}
 use Rattle.dsd_station.specs.Replayed.{state_of, told_from, image_or, IsFine}
@@ -66,11 +67,14 @@ Plays call answer result old new = ((new ≡ played old call) × (result ≡ ans
 
 -- What holds of each station in memory. Each answer since the plan last changed is the one that the plan and the record before it
 -- give. The faults are those of the record, unless one was for want of memory. Each image that a stop left was one that it may leave.
+-- What was heard and what went out are the record's.
 pub record IsPlayed (log : Log) : Type 0 where
   pub since : log.plan.since ≤ length log.calls
   pub answers : EachAnswered log.plan (take log.plan.since log.calls) (drop log.plan.since log.calls)
   pub faults : log.starved ≡ false → log.faults ≡ min (failed_in log.calls) (2 ^ 64 - 1)
   pub fine : IsFine (state_of log.calls)
+  pub heard : (state_of log.calls).heard ≡ answers_in log.calls
+  pub said : (state_of log.calls).now.gone ≡ said_in log.calls
 
 -- with a plan that begins at this moment
 abbrev pub planned : Log → Plan → Log
