@@ -122,9 +122,9 @@ whole_end (seg ∷ segs) m place fault e s u p =
     let n = refused_none (reason_of m seg) seg.start _ e in
     let st = stands m seg n.0 in
     whole_end segs (after m seg) (seg.start + length seg.bytes) fault n.1
-      (own_keeps (kind_of forms.Base seg) m seg (phase_in (next_phase m.course.phase (kind_of forms.Base seg) forms.Base)) (m.course.count + 1) (crc_from m.course.check seg.bytes) st.right s)
-      (sums_kept (kind_of forms.Base seg) m seg (m.course.count + 1) (crc_from m.course.check seg.bytes) st.right u)
-      st.may.short
+    (own_keeps (kind_of forms.Base seg) m seg (phase_in (next_phase m.course.phase (kind_of forms.Base seg) forms.Base)) (m.course.count + 1) (crc_from m.course.check seg.bytes) st.right s)
+    (sums_kept (kind_of forms.Base seg) m seg (m.course.count + 1) (crc_from m.course.check seg.bytes) st.right u)
+    st.may.short
 
 -- ---- the segments of a text, by their places
 
@@ -167,7 +167,7 @@ amount_in parts = parts.closed.totals.amount
 totals_end : (m : SoFar) (parts : Parts) → IsClosed m parts.closed → m.totals.quantity ≡ quantities m.lines → (shared_of (record_of parts) (seal_of parts) (amount_in parts)).totals ≡ m.totals
 totals_end m parts c sums =
     let quantity : quantities parts.closed.lines ≡ parts.closed.totals.quantity =
-      ap quantities c.lines ∙ sym sums ∙ ap (λ (u : StatedTotals). u.quantity) (sym c.totals) in
+    ap quantities c.lines ∙ sym sums ∙ ap (λ (u : StatedTotals). u.quantity) (sym c.totals) in
     ap (λ (n : ℕ). record { quantity = n; amount = parts.closed.totals.amount; deposit = parts.closed.totals.deposit }) quantity ∙ c.totals
 
 found_rest : (segs : List Seg) (m : Said) (before : List Seg) (place : ℕ) (fault : Option SegmentFault) (parts : Parts) → IsAt before m.course → refusal_from m place segs fault ≡ None
@@ -179,7 +179,7 @@ found_rest [] m before place fault parts at e r u =
     let done = done_is m.course.phase whole.0 in
     let behind : is_behind m.course.phase ≡ true = ap is_behind (sym done) in
     subst (λ (p : Phase). Rest894 p m (record_of parts) (seal_of parts) (amount_in parts) before []) done
-      (sym r.head, ((r.closed.lines, r.closed.control), totals_end m.course parts r.closed (u behind), r.closed.signature, r.closed.check, refl))
+    (sym r.head, ((r.closed.lines, r.closed.control), totals_end m.course parts r.closed (u behind), r.closed.signature, r.closed.check, refl))
 found_rest (seg ∷ segs) m before place fault parts at e r u =
     let n = refused_none (reason_of m seg) seg.start _ e in
     let st = stands m seg n.0 in
@@ -216,7 +216,7 @@ none_of : (m : Said) (seg : Seg) (kind : Kind) → kind_of forms.Base seg ≡ ki
 unfolding reason_of
 none_of m seg kind k a d o =
     subst (λ (u : Kind). (answer_reason m.course.phase u seg or_else admission forms.Base m.course.phase u seg or_else own_reason m seg u) ≡ None) (sym k)
-      (none_then _ _ a (none_then _ _ d o))
+    (none_then _ _ a (none_then _ _ d o))
 
 pub record IsReadSo (m : Said) (b : BaseRecord) (s : Seal) (amount : ℕ) (place : ℕ) (segs : List Seg) : Type 0 where
   pub none : refusal_from m place segs None ≡ None
@@ -268,9 +268,9 @@ only_rest (seg ∷ segs) m b s amount before place sound at (here, short) r =
     let n = forth m b s amount before seg segs count check sound at m.course.phase r in
     let k : kind_of forms.Base seg ≡ n.kind = n.goes.0 in
     let right : reason_of m seg ≡ None = none_of m seg n.kind k (not_answer m.course.phase n.kind seg n.moves_on)
-      (admitted forms.Base m.course.phase n.kind seg n.moves_on n.plain here) n.goes.1 in
+    (admitted forms.Base m.course.phase n.kind seg n.moves_on n.plain here) n.goes.1 in
     let rest : Rest894 (after m seg).course.phase (after m seg) b s amount (before ++ seg ∷ []) segs =
-        subst (λ (kind : Kind). Rest894 (phase_in (next_phase m.course.phase kind forms.Base)) (kept_by m seg kind (phase_in (next_phase m.course.phase kind forms.Base)) count check) b s amount (before ++ seg ∷ []) segs) (sym k) n.goes.2 in
+    subst (λ (kind : Kind). Rest894 (phase_in (next_phase m.course.phase kind forms.Base)) (kept_by m seg kind (phase_in (next_phase m.course.phase kind forms.Base)) count check) b s amount (before ++ seg ∷ []) segs) (sym k) n.goes.2 in
     let more = only_rest segs (after m seg) b s amount (before ++ seg ∷ []) (seg.start + length seg.bytes) sound (at_after m before seg at) short rest in
     record { none = none_refused _ seg.start _ right more.none; head = more.head; lines = more.lines; control = more.control; totals = more.totals; signature = more.signature; check = more.check }
 

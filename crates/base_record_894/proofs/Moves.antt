@@ -45,9 +45,19 @@ head_of b = record {
 
 abbrev IsHeadOf : Head → Seg → Type 0
 IsHeadOf h seg = IsHead (record {
-  flag = h.flag; number = h.number; day = h.day; receiver_duns = h.receiver_duns; receiver_place = h.receiver_place;
-  supplier_duns = h.supplier_duns; supplier_place = h.supplier_place; tail = h.tail; references = []; lines = []; extras = [];
-  deposit = None; signature = record { mark = []; name = [] };
+  flag = h.flag;
+  number = h.number;
+  day = h.day;
+  receiver_duns = h.receiver_duns;
+  receiver_place = h.receiver_place;
+  supplier_duns = h.supplier_duns;
+  supplier_place = h.supplier_place;
+  tail = h.tail;
+  references = [];
+  lines = [];
+  extras = [];
+  deposit = None;
+  signature = record { mark = []; name = [] };
 }) seg
 
 head_right : (seg : Seg) → head_fault seg ≡ None → IsHeadOf (head_in seg) seg
@@ -73,8 +83,14 @@ head_is : (b : BaseRecord) (h : Head) (seg : Seg) → head_of b ≡ h → IsHead
 head_is b h seg same i =
     let at : IsHeadOf (head_of b) seg = subst (λ (u : Head). IsHeadOf u seg) (sym same) i in
     record {
-      flag = at.flag; number = at.number; receiver_duns = at.receiver_duns; receiver_place = at.receiver_place;
-      supplier_duns = at.supplier_duns; supplier_place = at.supplier_place; day = at.day; tail = at.tail;
+      flag = at.flag;
+      number = at.number;
+      receiver_duns = at.receiver_duns;
+      receiver_place = at.receiver_place;
+      supplier_duns = at.supplier_duns;
+      supplier_place = at.supplier_place;
+      day = at.day;
+      tail = at.tail;
     }
 
 right_head : (b : BaseRecord) (seg : Seg) → IsHead b seg → head_fault seg ≡ None
@@ -126,9 +142,9 @@ module _ (m : Said) (b : BaseRecord) (s : Seal) (amount : ℕ) (before : List Se
 
   -- a segment of the course, behind the head
   course_on : (from : Phase) (kind : Kind) → is_course from ≡ true → is_plain kind ≡ true → moves (next_phase from kind forms.Base) ≡ true
-    → kind_of forms.Base seg ≡ kind → course_reason m.course seg kind ≡ None → IsAt before m.course
-    → RestAt (phase_in (next_phase from kind forms.Base)) forms.Base (kept m.course seg kind (phase_in (next_phase from kind forms.Base)) count check) (shared_of b s amount) (before ++ seg ∷ []) segs
-    → RestAt from forms.Base m.course (shared_of b s amount) before (seg ∷ segs)
+      → kind_of forms.Base seg ≡ kind → course_reason m.course seg kind ≡ None → IsAt before m.course
+      → RestAt (phase_in (next_phase from kind forms.Base)) forms.Base (kept m.course seg kind (phase_in (next_phase from kind forms.Base)) count check) (shared_of b s amount) (before ++ seg ∷ []) segs
+      → RestAt from forms.Base m.course (shared_of b s amount) before (seg ∷ segs)
   course_on from kind p q r k e at rest = course_back forms.Base m.course (shared_of b s amount) before seg segs count check from kind p q r k e at rest
 
   -- A segment that may stand there, is plain and has no reason against it, before the rest.
@@ -174,9 +190,9 @@ module _ (m : Said) (b : BaseRecord) (s : Seal) (amount : ℕ) (before : List Se
 
     -- the totals of a record are those of its lines
     totals_on : (from : Phase) → Some (head_of b) ≡ m.head → next_phase from kinds.Totals forms.Base ≡ Some phases.Signature
-      → (kind_of forms.Base seg ≡ kinds.Totals) × (course_reason m.course seg kinds.Totals ≡ None)
+        → (kind_of forms.Base seg ≡ kinds.Totals) × (course_reason m.course seg kinds.Totals ≡ None)
         × RestAt phases.Signature forms.Base (kept m.course seg kinds.Totals phases.Signature count check) (shared_of b s amount) (before ++ seg ∷ []) segs
-      → (kind_of forms.Base seg ≡ kinds.Totals) × (own_reason m seg kinds.Totals ≡ None)
+        → (kind_of forms.Base seg ≡ kinds.Totals) × (own_reason m seg kinds.Totals ≡ None)
         × Rest894 phases.Signature (kept_by m seg kinds.Totals phases.Signature count check) b s amount (before ++ seg ∷ []) segs
     unfolding kept kept_by
     totals_on from h n (k, e, ((l, c), same, rest)) = (k, none_then _ _ e (agreed l same), (h, ((l, c), same, rest)))

@@ -59,16 +59,16 @@ same_read text parts b s amount is r =
     let totals : parts.closed.totals ≡ (shared_of b s amount).totals = r.closed.totals ∙ sym o.totals in
     record {
       base = same_record (record_of parts) b
-        (ap (λ (h : Head). h.flag) head)
-        (ap (λ (h : Head). h.number) head)
-        (ap (λ (h : Head). h.day) head)
-        (ap (λ (h : Head). h.receiver_duns) head)
-        (ap (λ (h : Head). h.receiver_place) head)
-        (ap (λ (h : Head). h.supplier_duns) head)
-        (ap (λ (h : Head). h.supplier_place) head)
-        (ap (λ (h : Head). h.tail) head)
-        (sym is.references) (r.closed.lines ∙ sym o.lines) (sym is.extras)
-        (ap (λ (t : StatedTotals). t.deposit) totals) (r.closed.signature ∙ sym o.signature);
+          (ap (λ (h : Head). h.flag) head)
+          (ap (λ (h : Head). h.number) head)
+          (ap (λ (h : Head). h.day) head)
+          (ap (λ (h : Head). h.receiver_duns) head)
+          (ap (λ (h : Head). h.receiver_place) head)
+          (ap (λ (h : Head). h.supplier_duns) head)
+          (ap (λ (h : Head). h.supplier_place) head)
+          (ap (λ (h : Head). h.tail) head)
+          (sym is.references) (r.closed.lines ∙ sym o.lines) (sym is.extras)
+          (ap (λ (t : StatedTotals). t.deposit) totals) (r.closed.signature ∙ sym o.signature);
       seal = same_seal (seal_of parts) s (r.closed.control ∙ sym o.control) (r.closed.check ∙ sym o.check);
       stated = ap (λ (t : StatedTotals). t.amount) totals;
     }
@@ -95,20 +95,21 @@ one text a b s t m n is also =
     let p = (only text b t n also).0 in
     let some : Some (head_of a) ≡ Some (head_of b) = o.head ∙ sym p.head in
     let head : head_of a ≡ head_of b = cc (some) in
-    let totals : (shared_of a s m).totals ≡ (shared_of b t n).totals = o.totals ∙ sym p.totals in
-    (same_record a b
-        (ap (λ (h : Head). h.flag) head)
-        (ap (λ (h : Head). h.number) head)
-        (ap (λ (h : Head). h.day) head)
-        (ap (λ (h : Head). h.receiver_duns) head)
-        (ap (λ (h : Head). h.receiver_place) head)
-        (ap (λ (h : Head). h.supplier_duns) head)
-        (ap (λ (h : Head). h.supplier_place) head)
-        (ap (λ (h : Head). h.tail) head)
-        (is.references ∙ sym also.references) (o.lines ∙ sym p.lines) (is.extras ∙ sym also.extras)
-        (ap (λ (u : StatedTotals). u.deposit) totals) (o.signature ∙ sym p.signature),
+    let totals : (shared_of a s m).totals ≡ (shared_of b t n).totals = o.totals ∙ sym p.totals in (
+      same_record a b
+          (ap (λ (h : Head). h.flag) head)
+          (ap (λ (h : Head). h.number) head)
+          (ap (λ (h : Head). h.day) head)
+          (ap (λ (h : Head). h.receiver_duns) head)
+          (ap (λ (h : Head). h.receiver_place) head)
+          (ap (λ (h : Head). h.supplier_duns) head)
+          (ap (λ (h : Head). h.supplier_place) head)
+          (ap (λ (h : Head). h.tail) head)
+          (is.references ∙ sym also.references) (o.lines ∙ sym p.lines) (is.extras ∙ sym also.extras)
+          (ap (λ (u : StatedTotals). u.deposit) totals) (o.signature ∙ sym p.signature),
       same_seal s t (o.control ∙ sym p.control) (o.check ∙ sym p.check),
-      ap (λ (u : StatedTotals). u.amount) totals)
+      ap (λ (u : StatedTotals). u.amount) totals,
+    )
 
 pub found_as : (text : List ℕ) (parts : Parts) (b : BaseRecord) (s : Seal) (amount : ℕ) → b ≡ record_of parts → s ≡ seal_of parts → amount ≡ parts.closed.totals.amount
     → refusal_of text ≡ None → IsReadFrom (said_by nothing (cut_of text).segments) parts → IsPlain894 b s amount text

@@ -8,7 +8,9 @@ ghost use Rattle.base_record_894.specs.PlainText.{IsSpelled};
 use crate::head::Head;
 use crate::notes::Notes;
 use crate::parts::Parts;
-use dsd_values::{Cents, Day, DeliveryNumber, Extras, Flag, Kept, Line, Lines, MOST_LINES, Signature, Word};
+use dsd_values::{
+    Cents, Day, DeliveryNumber, Extras, Flag, Kept, Line, Lines, MOST_LINES, Signature, Word,
+};
 use segments::{Closed, Seal};
 use std::alloc::Global;
 use std::marker::Model;

@@ -8,9 +8,10 @@ ghost use Rattle.dsd_values.specs.Calendar.{day_of};
 ghost use Rattle.base_record_894.specs.HeadTable.{head_fault, head_in, no_day};
 ghost use Rattle.dsd_values.specs.declared.flag.Flag.TheVariants as flags;
 
-use dsd_values::{read_day, read_delivery_number, read_flag, Day, DeliveryNumber, Flag, Kept, Word};
-use segments::{in_element, tail_at, word_at};
-use segments::{ItemFault, Segment};
+use dsd_values::{
+    Day, DeliveryNumber, Flag, Kept, Word, read_day, read_delivery_number, read_flag,
+};
+use segments::{ItemFault, Segment, in_element, tail_at, word_at};
 use std::alloc::Global;
 
 /// What a G82 says.

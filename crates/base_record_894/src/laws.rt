@@ -9,5 +9,4 @@ ghost use Rattle.base_record_894.specs.PlainText.{IsPlain894};
 pub fn one_record()
     ensures { (text : List ℕ) (base other : BaseRecord) (seal seal' : Seal) (amount amount' : ℕ) → IsPlain894 base seal amount text → IsPlain894 other seal' amount' text
         → (base ≡ other) × (seal ≡ seal') × (amount ≡ amount') }
-{
-}
+{}

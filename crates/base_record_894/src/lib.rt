@@ -13,6 +13,5 @@ pub use base::Base;
 pub use notes::Notes;
 pub use plain::{read_894, read_plain_894};
 
-
 #[cfg(test)]
 mod tests;

@@ -11,7 +11,7 @@ ghost use Rattle.base_record_894.specs.Said.{nothing};
 ghost use Rattle.base_record_894.specs.FirstRefusal.{refusal_of, IsWithin};
 ghost use Rattle.base_record_894.specs.ReadParts.{segment_at, said_by, IsReadFrom};
 
-use crate::base::{seal_up, Base};
+use crate::base::{Base, seal_up};
 use crate::parts::Parts;
 use crate::reader::Reader;
 use dsd_values::Cents;

@@ -8,10 +8,12 @@ ghost use Rattle.base_record_894.specs.ReadParts.{IsReadFrom};
 ghost use Rattle.segments.specs.declared.kind.Kind.TheVariants as kinds;
 
 use crate::base::quantities;
-use crate::head::{read_head, Head};
+use crate::head::{Head, read_head};
 use crate::parts::Parts;
 use dsd_values::{Memory, SET_BYTES};
-use segments::{at, is_start_of, not_yet, refuse, Course, Form, Kind, Phase, Segment, SetFault, SetReason};
+use segments::{
+    Course, Form, Kind, Phase, Segment, SetFault, SetReason, at, is_start_of, not_yet, refuse,
+};
 use std::alloc::Global;
 use std::marker::Model;
 

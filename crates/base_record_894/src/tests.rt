@@ -4,7 +4,8 @@ use segments::{SetFault, SetReason};
 use std::test::Fail;
 
 /// Two lines: 12 at 1.25 and 3 at .3333.
-const DELIVERY: &[u8] = b"ST*894*0001\r\nG82*D*100001*****20240229\r\nLS*0100\r\nG83*1*12*EA*012345678905****1.25\r\nG83*2*3*EA*012345678912****.3333\r\nLE*0100\r\nG84*15*1600\r\nG86*JONES\r\nG85*C60A\r\nSE*10*0001\r\n";
+const DELIVERY: &[u8] =
+    b"ST*894*0001\r\nG82*D*100001*****20240229\r\nLS*0100\r\nG83*1*12*EA*012345678905****1.25\r\nG83*2*3*EA*012345678912****.3333\r\nLE*0100\r\nG84*15*1600\r\nG86*JONES\r\nG85*C60A\r\nSE*10*0001\r\n";
 
 #[test]
 fn reads_a_delivery(rt: HostRuntime) -> Result<(), Fail> {
@@ -29,9 +30,25 @@ fn reads_a_delivery(rt: HostRuntime) -> Result<(), Fail> {
 #[test]
 fn refuses_with_place_and_reason(rt: HostRuntime) {
     let cut = read_894(rt.alloc(), &DELIVERY[..160]);
-    assert!(rt; matches!(cut, Err(SetFault::Refused { place: 160, reason: SetReason::Order })));
+    assert!(rt;
+        matches!(
+            cut,
+            Err(SetFault::Refused {
+                place: 160,
+                reason: SetReason::Order
+            })
+        )
+    );
     let nothing = read_894(rt.alloc(), b"");
-    assert!(rt; matches!(nothing, Err(SetFault::Refused { place: 0, reason: SetReason::Order })));
+    assert!(rt;
+        matches!(
+            nothing,
+            Err(SetFault::Refused {
+                place: 0,
+                reason: SetReason::Order
+            })
+        )
+    );
 }
 
 #[test]

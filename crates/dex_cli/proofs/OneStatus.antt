@@ -68,7 +68,7 @@ one_status words left after after' faults now now' (answers.Set summary) (answer
 one_status words left after after' faults now now' (answers.Set summary) (answers.Refused place reason) f g (jobs.Check checks.Line, e, (input, is, p)) (job, e', q) = absurd p
 one_status words left after after' faults now now' (answers.Line captured) (answers.Line captured') f g (jobs.Check checks.Line, e, (input, is, (short, same))) (jobs.Check checks.Line, e', (input', is', (short', same'))) =
     ap (λ (bytes : List ℕ). if has_refused bytes then INPUT_REFUSED else DONE)
-      (same ∙ sym (all_left left after input is short) ∙ all_left left after' input' is' short' ∙ sym same')
+    (same ∙ sym (all_left left after input is short) ∙ all_left left after' input' is' short' ∙ sym same')
 one_status words left after after' faults now now' (answers.Line captured) (answers.Line captured') f g (jobs.Check checks.Set, e, (input, is, p)) q = absurd p
 one_status words left after after' faults now now' (answers.Line captured) (answers.Line captured') f g p (jobs.Check checks.Set, e', (input', is', q)) = absurd q
 one_status words left after after' faults now now' (answers.Line captured) (answers.Refused place reason) f g (jobs.Check checks.Line, e, (input, is, (short, same))) (jobs.Check checks.Line, e', (input', is', long)) =

@@ -3,8 +3,8 @@
 ghost use Rattle.std.specs.Prelude.{◌≡◌};
 ghost use Rattle.dex_cli.specs.Answers.{status_of};
 
-use crate::status::{DONE, INPUT_REFUSED, SOURCE_FAILED, WORDS_REFUSED};
 use crate::check_line::has_refused;
+use crate::status::{DONE, INPUT_REFUSED, SOURCE_FAILED, WORDS_REFUSED};
 use crate::summary::SetSummary;
 use segments::SetReason;
 

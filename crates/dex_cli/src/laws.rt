@@ -11,5 +11,4 @@ pub fn one_status()
         → MayAnswer words (record { left = Some left; after = Some after; faults = faults; faults_after = now }) a
         → MayAnswer words (record { left = Some left; after = Some after'; faults = faults; faults_after = now' }) b
         → status_of a ≡ status_of b }
-{
-}
+{}

@@ -22,12 +22,7 @@ fn segment_fault(fault: SegmentFault) -> &'static str
 }
 
 /// A name and a number.
-fn put_named(
-    alloc: Global,
-    out: &mut Vec<u8>,
-    name: &str,
-    number: u64,
-) -> Result<(), AllocError>
+fn put_named(alloc: Global, out: &mut Vec<u8>, name: &str, number: u64) -> Result<(), AllocError>
     ensures { OnOk result (out.new.items ≡ out.old.items ++ both name.now (decimal number)) }
 {
     put(out, name)?;

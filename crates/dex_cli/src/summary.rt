@@ -41,11 +41,7 @@ fn put_delivery(out: &mut Vec<u8>, base: &Base) -> Result<(), AllocError>
 
 /// Prints the summary of a set.
 #[tactic(auto, unfolding(crate::specs::Texts::summary_text))]
-pub fn put_summary(
-    alloc: Global,
-    out: &mut Vec<u8>,
-    summary: &SetSummary,
-) -> Result<(), AllocError>
+pub fn put_summary(alloc: Global, out: &mut Vec<u8>, summary: &SetSummary) -> Result<(), AllocError>
     ensures { OnOk result (out.new.items ≡ out.old.items ++ summary_text summary.now) }
 {
     let SetSummary { base, seal, amount } = summary;

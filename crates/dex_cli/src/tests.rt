@@ -6,11 +6,14 @@ use std::alloc::{AllocError, Global};
 use std::test::Fail;
 
 /// Two lines: 12 at 1.25 and 3 at .3333.
-const DELIVERY: &str = "ST*894*0001\r\nG82*D*100001*****20240229\r\nLS*0100\r\nG83*1*12*EA*012345678905****1.25\r\nG83*2*3*EA*012345678912****.3333\r\nLE*0100\r\nG84*15*1600\r\nG86*JONES\r\nG85*C60A\r\nSE*10*0001\r\n";
+const DELIVERY: &str =
+    "ST*894*0001\r\nG82*D*100001*****20240229\r\nLS*0100\r\nG83*1*12*EA*012345678905****1.25\r\nG83*2*3*EA*012345678912****.3333\r\nLE*0100\r\nG84*15*1600\r\nG86*JONES\r\nG85*C60A\r\nSE*10*0001\r\n";
 
-const SUMMARY: &str = "SET 894 0001\nDELIVERY D 100001 20240229\nLINES 2\nQUANTITY 15\nAMOUNT 1600\nOK\n";
+const SUMMARY: &str =
+    "SET 894 0001\nDELIVERY D 100001 20240229\nLINES 2\nQUANTITY 15\nAMOUNT 1600\nOK\n";
 
-const EMPTY: &str = "ST*894*0001\r\nG82*D*100001*****20240229\r\nG84*0*0\r\nG86*JONES\r\nG85*A4A6\r\nSE*6*0001\r\n";
+const EMPTY: &str =
+    "ST*894*0001\r\nG82*D*100001*****20240229\r\nG84*0*0\r\nG86*JONES\r\nG85*A4A6\r\nSE*6*0001\r\n";
 
 fn words(alloc: Global, text: &str) -> Result<Vec<String>, AllocError> {
     let mut words = Vec::new(alloc);
@@ -51,7 +54,11 @@ fn sets(rt: HostRuntime) -> Result<(), Fail> {
     let alloc = rt.alloc();
     let rows = [
         (DELIVERY, 0, SUMMARY),
-        (EMPTY, 0, "SET 894 0001\nDELIVERY D 100001 20240229\nLINES 0\nQUANTITY 0\nAMOUNT 0\nOK\n"),
+        (
+            EMPTY,
+            0,
+            "SET 894 0001\nDELIVERY D 100001 20240229\nLINES 0\nQUANTITY 0\nAMOUNT 0\nOK\n",
+        ),
         ("", 3, "REFUSED 0 ORDER\n"),
         ("ST*895*0001\n", 3, "REFUSED 0 NOTYET ST\n"),
         ("\r", 3, "REFUSED 0 SEGMENT NOEND\n"),
@@ -72,7 +79,11 @@ fn changed_sets(rt: HostRuntime) -> Result<(), Fail> {
         ("C60A", "abcd", "REFUSED 150 VALUE 1 NOTDIGIT 0\n"),
         ("20240229", "20230229", "REFUSED 13 VALUE 7 NOSUCHDAY\n"),
         ("JONES", "JONET", "REFUSED 150 CHECK C60A 07BB\n"),
-        ("SE*10*0001\r\n", "SE*10*0001\r\n\r\n", "REFUSED 172 SEGMENT BADID\n"),
+        (
+            "SE*10*0001\r\n",
+            "SE*10*0001\r\n\r\n",
+            "REFUSED 172 SEGMENT BADID\n",
+        ),
         ("G84*15*", "G84*16*", "REFUSED 126 TOTALS 16 15\n"),
         ("G83*2*3", "G83*1*3", "REFUSED 83 TWICE 1\n"),
         ("LS*0100", "N9*PO*7\r\nLS*0100", "REFUSED 40 NOTYET N9\n"),
@@ -86,13 +97,19 @@ fn changed_sets(rt: HostRuntime) -> Result<(), Fail> {
     }
     let (status, written) = run(alloc, "check set", &DELIVERY.as_bytes()[..100], 1000, &[])?;
     assert_eq!(rt; status, 3);
-    assert_eq!(rt; written.as_slice(), b"REFUSED 83 SEGMENT NOEND\n".as_slice());
+    assert_eq!(rt;
+        written.as_slice(),
+        b"REFUSED 83 SEGMENT NOEND\n".as_slice()
+    );
     Ok(())
 }
 
 /// As many lines as told, each of one unit at 1.
 fn lines(alloc: Global, count: usize) -> Result<String, AllocError> {
-    let mut text = String::from_str(alloc, "ST*894*0001\r\nG82*D*100001*****20240229\r\nLS*0100\r\n")?;
+    let mut text = String::from_str(
+        alloc,
+        "ST*894*0001\r\nG82*D*100001*****20240229\r\nLS*0100\r\n",
+    )?;
     for line in 0..count {
         let number = line.saturating_add(1);
         let segment = format!(in alloc; "G83*{number}*1*EA*****1\r\n")?;
@@ -107,8 +124,17 @@ fn most_lines(rt: HostRuntime) -> Result<(), Fail> {
     let alloc = rt.alloc();
     let (status, written) = run(alloc, "check set", lines(alloc, 999)?.as_bytes(), 1000, &[])?;
     assert_eq!(rt; status, 0);
-    assert_eq!(rt; written.as_slice(), b"SET 894 0001\nDELIVERY D 100001 20240229\nLINES 999\nQUANTITY 999\nAMOUNT 99900\nOK\n".as_slice());
-    let (status, written) = run(alloc, "check set", lines(alloc, 1000)?.as_bytes(), 1000, &[])?;
+    assert_eq!(rt;
+        written.as_slice(),
+        b"SET 894 0001\nDELIVERY D 100001 20240229\nLINES 999\nQUANTITY 999\nAMOUNT 99900\nOK\n".as_slice()
+    );
+    let (status, written) = run(
+        alloc,
+        "check set",
+        lines(alloc, 1000)?.as_bytes(),
+        1000,
+        &[],
+    )?;
     assert_eq!(rt; status, 3);
     assert_eq!(rt; written.as_slice(), b"REFUSED 19921 LIMIT\n".as_slice());
     Ok(())
@@ -117,23 +143,43 @@ fn most_lines(rt: HostRuntime) -> Result<(), Fail> {
 #[test]
 fn captured_lines(rt: HostRuntime) -> Result<(), Fail> {
     let alloc = rt.alloc();
-    let turn = [0x05, 0x10, 0x30, 0x10, 0x02, 0x41, 0x10, 0x03, 0x70, 0x51, 0x04];
+    let turn = [
+        0x05, 0x10, 0x30, 0x10, 0x02, 0x41, 0x10, 0x03, 0x70, 0x51, 0x04,
+    ];
     let (status, written) = run(alloc, "check line", &turn, 1000, &[])?;
     assert_eq!(rt; status, 0);
-    assert_eq!(rt; written.as_slice(), b"ENQ\nACK0\nLAST 1\nEOT\nOK\n".as_slice());
-    let damaged = [0x05, 0x10, 0x30, 0x10, 0x02, 0x41, 0x10, 0x03, 0x70, 0x52, 0x04];
+    assert_eq!(rt;
+        written.as_slice(),
+        b"ENQ\nACK0\nLAST 1\nEOT\nOK\n".as_slice()
+    );
+    let damaged = [
+        0x05, 0x10, 0x30, 0x10, 0x02, 0x41, 0x10, 0x03, 0x70, 0x52, 0x04,
+    ];
     let (status, written) = run(alloc, "check line", &damaged, 1000, &[])?;
     assert_eq!(rt; status, 3);
-    assert_eq!(rt; written.as_slice(), b"ENQ\nACK0\nREFUSED 3 DAMAGED\n".as_slice());
+    assert_eq!(rt;
+        written.as_slice(),
+        b"ENQ\nACK0\nREFUSED 3 DAMAGED\n".as_slice()
+    );
     let (status, written) = run(alloc, "check line", &turn[..7], 1000, &[])?;
     assert_eq!(rt; status, 3);
-    assert_eq!(rt; written.as_slice(), b"ENQ\nACK0\nREFUSED 3 BAD\n".as_slice());
+    assert_eq!(rt;
+        written.as_slice(),
+        b"ENQ\nACK0\nREFUSED 3 BAD\n".as_slice()
+    );
     Ok(())
 }
 
 #[test]
 fn words_of_no_job(rt: HostRuntime) -> Result<(), Fail> {
-    for job in ["", "check", "check sets", "check set set", "set check", "help"] {
+    for job in [
+        "",
+        "check",
+        "check sets",
+        "check set set",
+        "set check",
+        "help",
+    ] {
         let (status, written) = run(rt.alloc(), job, DELIVERY.as_bytes(), 1000, &[])?;
         assert_eq!(rt; status, 2);
         assert_eq!(rt; written.as_slice(), b"WORDS\n".as_slice());

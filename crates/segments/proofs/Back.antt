@@ -42,11 +42,11 @@ is_course _ = true
 module _ (form : Form) (m : SoFar) (t : Shared) (before : List Seg) (seg : Seg) (segs : List Seg) (count check : ℕ) where
   abbrev From : Phase → Kind → Type 0
   From from kind = kind_of form seg ≡ kind → course_reason m seg kind ≡ None → IsAt before m
-    → RestAt (phase_in (next_phase from kind form)) form (kept m seg kind (phase_in (next_phase from kind form)) count check) t (before ++ seg ∷ []) segs
-    → RestAt from form m t before (seg ∷ segs)
+      → RestAt (phase_in (next_phase from kind form)) form (kept m seg kind (phase_in (next_phase from kind form)) count check) t (before ++ seg ∷ []) segs
+      → RestAt from form m t before (seg ∷ segs)
 
   loop_start_back : kind_of form seg ≡ kinds.LoopStart → course_reason m seg kinds.LoopStart ≡ None
-    → RestAt phases.FirstItem form (kept m seg kinds.LoopStart phases.FirstItem count check) t (before ++ seg ∷ []) segs → RestBody form m t before (seg ∷ segs)
+      → RestAt phases.FirstItem form (kept m seg kinds.LoopStart phases.FirstItem count check) t (before ++ seg ∷ []) segs → RestBody form m t before (seg ∷ segs)
   unfolding kept
   loop_start_back k e (line, lines, l, c, rest) =
       (line ∷ lines, l, c, (loop_id_in seg, (k, loop_start_right seg (no_value _ e), rest)))
@@ -55,7 +55,7 @@ module _ (form : Form) (m : SoFar) (t : Shared) (before : List Seg) (seg : Seg) 
   totals_are e same = subst (λ (u : StatedTotals). IsTotals u seg) (sym same) (totals_right seg (no_value _ e))
 
   first_totals_back : kind_of form seg ≡ kinds.Totals → course_reason m seg kinds.Totals ≡ None
-    → RestAt phases.Signature form (kept m seg kinds.Totals phases.Signature count check) t (before ++ seg ∷ []) segs → RestBody form m t before (seg ∷ segs)
+      → RestAt phases.Signature form (kept m seg kinds.Totals phases.Signature count check) t (before ++ seg ∷ []) segs → RestBody form m t before (seg ∷ segs)
   unfolding kept
   first_totals_back k e ((l, c), totals, rest) =
       ([], l ∙ sym (append-nil m.lines), c, (k, totals_are e totals, rest))

@@ -21,13 +21,21 @@ use Rattle.segments.proofs.Rest.{RestAt, RestBody, IsAt}
 module _ (form : Form) (m : SoFar) (t : Shared) (before : List Seg) (seg : Seg) (segs : List Seg) (count check : ℕ) (sound : IsSound t.lines) (at : IsAt before m) where
   abbrev Goes : Phase → Kind → Type 0
   Goes from kind = (kind_of form seg ≡ kind) × (course_reason m seg kind ≡ None)
-    × RestAt (phase_in (next_phase from kind form)) form (kept m seg kind (phase_in (next_phase from kind form)) count check) t (before ++ seg ∷ []) segs
+      × RestAt (phase_in (next_phase from kind form)) form (kept m seg kind (phase_in (next_phase from kind form)) count check) t (before ++ seg ∷ []) segs
 
   pub loop_start_on : (line : Line) (lines : List Line) → t.lines ≡ m.lines ++ line ∷ lines → t.control ≡ m.control → Body (line ∷ lines) form t before (seg ∷ segs) → Goes phases.References kinds.LoopStart
   unfolding kept
-  loop_start_on line lines l c (label, (k, w, rest)) =
-      (k, value_none _ (right_loop_start label seg w), (line, lines, l, c,
-        subst (λ (name : List ℕ). Items form (line ∷ lines) (LoopEnd form name (Closing form t)) (before ++ seg ∷ []) segs) (ok_said [] _ label w.0) rest))
+  loop_start_on line lines l c (label, (k, w, rest)) = (
+    k,
+    value_none _ (right_loop_start label seg w),
+    (
+      line,
+      lines,
+      l,
+      c,
+      subst (λ (name : List ℕ). Items form (line ∷ lines) (LoopEnd form name (Closing form t)) (before ++ seg ∷ []) segs) (ok_said [] _ label w.0) rest,
+    ),
+  )
 
   pub totals_on : t.lines ≡ m.lines → t.control ≡ m.control → Closing form t before (seg ∷ segs) → Goes phases.Extras kinds.Totals
   unfolding kept
@@ -43,7 +51,7 @@ module _ (form : Form) (m : SoFar) (t : Shared) (before : List Seg) (seg : Seg) 
       let under : length m.lines < MOST_LINES = omega (arith, length-append m.lines (line ∷ lines), most) in
       let new : has_line line.dsd m.lines ≡ false = apart_at m.lines line lines (subst AreApart l sound.apart) in
       none_then _ _ (when_not _ _ (not_le MOST_LINES (length m.lines) under)) (none_then _ _ (value_none _ (right_item line seg i))
-        (when_not _ _ (ap (λ (n : ℕ). has_line n m.lines) (sym (ok_said 0 _ _ i.dsd)) ∙ new)))
+      (when_not _ _ (ap (λ (n : ℕ). has_line n m.lines) (sym (ok_said 0 _ _ i.dsd)) ∙ new)))
 
   pub first_item_on : RestAt phases.FirstItem form m t before (seg ∷ segs) → Goes phases.FirstItem kinds.Item
   unfolding kept
@@ -71,6 +79,8 @@ module _ (form : Form) (m : SoFar) (t : Shared) (before : List Seg) (seg : Seg) 
   unfolding kept
   trailer_on (read, totals, g, i, (k, (n, w, ends), rest)) =
       let found : stated_count_in seg ≡ m.count + 1 = sym (ok_said 0 _ _ n) ∙ ap (λ (u : ℕ). u + 1) (sym at.0) in
-      let again : control_again_in seg ≡ m.control = sym (ok_said [] _ _ w) ∙ read.1 in
-      (k, none_then _ _ (value_none _ (right_trailer (length before + 1) t.control seg n w ends)) (none_then _ _ (when_not _ _ (number_same _ _ found)) (when_not _ _ (bytes_same _ _ again))),
-        (read, totals, g, i, rest))
+      let again : control_again_in seg ≡ m.control = sym (ok_said [] _ _ w) ∙ read.1 in (
+        k,
+        none_then _ _ (value_none _ (right_trailer (length before + 1) t.control seg n w ends)) (none_then _ _ (when_not _ _ (number_same _ _ found)) (when_not _ _ (bytes_same _ _ again))),
+        (read, totals, g, i, rest),
+      )

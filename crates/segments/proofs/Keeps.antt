@@ -55,9 +55,9 @@ moves_some None phase e = cc
 pub at_next : (m : SoFar) (before : List Seg) (seg : Seg) (kind : Kind) (phase : Phase) → IsAt before m → IsAt (before ++ seg ∷ []) (kept m seg kind phase (m.count + 1) (crc_from m.check seg.bytes))
 unfolding kept
 at_next m before seg kind phase at = (
-    omega (arith, at.0, length-append before (seg ∷ [])),
-    ap (λ (c : ℕ). crc_from c seg.bytes) at.1 ∙ sym (check_on 0 (bytes_of before) seg.bytes) ∙ ap (λ (bytes : List ℕ). crc_of bytes) (sym (bytes_more before seg)),
-  )
+  omega (arith, at.0, length-append before (seg ∷ [])),
+  ap (λ (c : ℕ). crc_from c seg.bytes) at.1 ∙ sym (check_on 0 (bytes_of before) seg.bytes) ∙ ap (λ (bytes : List ℕ). crc_of bytes) (sym (bytes_more before seg)),
+)
 
 -- what holds of the lines, all along
 abbrev pub Sound : List Line → Type 0

@@ -22,9 +22,9 @@ RestAt phases.Head form m t before segs = ⊥
 RestAt phases.References form m t before segs = RestBody form m t before segs
 RestAt phases.Body form m t before segs = RestBody form m t before segs
 RestAt phases.FirstItem form m t before segs = (line : Line) × (lines : List Line)
-  × (t.lines ≡ m.lines ++ line ∷ lines) × (t.control ≡ m.control) × Items form (line ∷ lines) (LoopEnd form m.loop_id (Closing form t)) before segs
+    × (t.lines ≡ m.lines ++ line ∷ lines) × (t.control ≡ m.control) × Items form (line ∷ lines) (LoopEnd form m.loop_id (Closing form t)) before segs
 RestAt phases.Items form m t before segs = (lines : List Line)
-  × (t.lines ≡ m.lines ++ lines) × (t.control ≡ m.control) × Items form lines (LoopEnd form m.loop_id (Closing form t)) before segs
+    × (t.lines ≡ m.lines ++ lines) × (t.control ≡ m.control) × Items form lines (LoopEnd form m.loop_id (Closing form t)) before segs
 RestAt phases.Extras form m t before segs = Read m t × Closing form t before segs
 RestAt phases.Signature form m t before segs = Read m t × (t.totals ≡ m.totals) × Signed form t before segs
 RestAt phases.Integrity form m t before segs = Read m t × (t.totals ≡ m.totals) × (t.signature ≡ m.signature) × Integrity form t before segs

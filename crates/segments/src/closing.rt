@@ -4,7 +4,10 @@ ghost use Rattle.std.specs.Prelude.{◌≡◌};
 ghost use Rattle.segments.specs.Elements.{Reads};
 ghost use Rattle.segments.specs.Tables.{start_fault, control_in, loop_start_fault, loop_id_in, totals_fault, totals_in, signature_fault, signature_in, integrity_fault, integrity_in, trailer_fault, stated_count_in, control_again_in};
 
-use crate::elements::{cents_at, check_at, end_of_elements, filled_word_at, number_at, optional_cents_at, total_quantity_at, word_at, word_between_at};
+use crate::elements::{
+    cents_at, check_at, end_of_elements, filled_word_at, number_at, optional_cents_at,
+    total_quantity_at, word_at, word_between_at,
+};
 use crate::item_fault::ItemFault;
 use crate::segment::Segment;
 use crate::stated::StatedTotals;

@@ -10,19 +10,21 @@ ghost use Rattle.segments.specs.Elements.{Reads};
 ghost use Rattle.segments.specs.Closing.{IsClosed};
 ghost use Rattle.segments.specs.Reasons.{Says, at_segment, admission, not_yet_reason, item_reason, loop_end_fault, integrity_reason, trailer_reason, course_reason};
 
-use crate::closing::{read_integrity, read_loop_start, read_signature, read_start, read_totals, read_trailer};
+use crate::closing::{
+    read_integrity, read_loop_start, read_signature, read_start, read_totals, read_trailer,
+};
 use crate::elements::{end_of_elements, word_between_at};
 use crate::item::read_item;
 use crate::item_fault::ItemFault;
 use crate::kind::{Form, Kind};
 use crate::numbered_lines::NumberedLines;
 use crate::phase::Phase;
-use crate::segment::Segment;
 use crate::refusing::{at, built, refuse};
+use crate::segment::Segment;
 use crate::set_fault::{SetFault, SetReason};
 use crate::stated::{Closed, StatedTotals};
 use block_check::Running;
-use dsd_values::{Cents, Check, Line, Memory, Signature, ValueFault, Word, MOST_LINES, SET_BYTES};
+use dsd_values::{Cents, Check, Line, MOST_LINES, Memory, SET_BYTES, Signature, ValueFault, Word};
 use std::alloc::Global;
 use std::marker::Model;
 

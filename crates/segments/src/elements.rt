@@ -11,8 +11,9 @@ ghost use Rattle.segments.specs.Elements.{Reads, at_element, said, optional, no_
 use crate::item_fault::ItemFault;
 use crate::segment::Segment;
 use dsd_values::{
+    Cents, Check, Cost, DsdNumber, Kept, KeptFault, Quantity, ValueFault, WORD_BYTES, Word,
     read_cents, read_check, read_cost, read_dsd, read_number, read_quantity, read_total_quantity,
-    read_word_between, Cents, Check, Cost, DsdNumber, Kept, KeptFault, Quantity, ValueFault, WORD_BYTES, Word,
+    read_word_between,
 };
 use std::alloc::Global;
 
@@ -75,7 +76,10 @@ pub fn word_between_at(
     requires { most ≤ WORD_BYTES }
     ensures { Reads result (at_element element (word_between least most (element_of segment.now element))) (λ v. v ≡ said [] (word_between least most (element_of segment.now element))) }
 {
-    in_element(element, read_word_between(segment.element(element), least, most))
+    in_element(
+        element,
+        read_word_between(segment.element(element), least, most),
+    )
 }
 
 /// A mandatory number of at most 15 digits.

@@ -42,6 +42,5 @@ pub use set_fault::{SetFault, SetReason};
 pub use stated::{Closed, StatedTotals};
 pub use writing_laws::written_segments_are_read;
 
-
 #[cfg(test)]
 mod tests;

@@ -3,7 +3,7 @@
 ghost use Rattle.std.specs.Prelude.{◌≡◌, ◌+◌, ◌<◌, ◌≤◌, [], ◌∷◌, ◌++◌, length, IfOk, OnOk, OnErr};
 ghost use Rattle.segments.specs.Reasons.{has_line};
 
-use dsd_values::{DsdNumber, Line, Lines, Memory, MOST_LINES};
+use dsd_values::{DsdNumber, Line, Lines, MOST_LINES, Memory};
 use std::alloc::Global;
 use std::marker::Model;
 

@@ -12,13 +12,13 @@ use Rattle.base_record_894.proofs.plain.read_parts.Goals as goal
 pub returns-in_err-segment-clause-exact : goal.returns-in_err-segment-clause-exact
 returns-in_err-segment-clause-exact c =
     fault_answers c.loop-machine.machine c.loop-machine.place c.loop-machine.segments _ _ _ _
-      (same_err _ _ c.from_residual-in_err-segment.ensures) c.in_err-segment.ensures.answer c.loop-machine.invariant.rest
+    (same_err _ _ c.from_residual-in_err-segment.ensures) c.in_err-segment.ensures.answer c.loop-machine.invariant.rest
 
 pub returns-in_err-step-clause-exact : goal.returns-in_err-step-clause-exact
 returns-in_err-step-clause-exact c =
     let next = segment_ok _ _ _ c.in_ok-segment.ensures.answer ∙ ap (λ (o : Option Seg). Ok o) c.in-Some.is in
     step_answers c.loop-machine.machine c.loop-machine.place c.loop-machine.segments c.in-Some.segment _ _ _ _ _
-      (same_err _ _ c.from_residual-in_err-step.ensures) next c.in_err-step.ensures.exact c.loop-machine.invariant.rest
+    (same_err _ _ c.from_residual-in_err-step.ensures) next c.in_err-step.ensures.exact c.loop-machine.invariant.rest
 
 pub loop-machine-preserved : goal.loop-machine-preserved
 loop-machine-preserved c =
@@ -33,12 +33,12 @@ loop-machine-preserved c =
     let some = bytes_some seg front.spelled in
     record {
       rest = ap (λ (u : Said). refusal_in u c.end-place.result (cut_left c.next_segment.new.segments)) right.1
-        ∙ ap (λ (p : ℕ). refusal_in (after m seg) p (cut_left c.next_segment.new.segments)) end
-        ∙ ap (λ (l : Left). refusal_in (after m seg) (seg.start + length seg.bytes) (cut_left l)) behind
-        ∙ step_on m c.loop-machine.place old seg next right.0 ∙ c.loop-machine.invariant.rest;
+          ∙ ap (λ (p : ℕ). refusal_in (after m seg) p (cut_left c.next_segment.new.segments)) end
+          ∙ ap (λ (l : Left). refusal_in (after m seg) (seg.start + length seg.bytes) (cut_left l)) behind
+          ∙ step_on m c.loop-machine.place old seg next right.0 ∙ c.loop-machine.invariant.rest;
       said = ap (λ (u : Said). said_in u (cut_left c.next_segment.new.segments)) right.1
-        ∙ ap (λ (l : Left). said_in (after m seg) (cut_left l)) behind
-        ∙ said_on m old seg next ∙ c.loop-machine.invariant.said;
+          ∙ ap (λ (l : Left). said_in (after m seg) (cut_left l)) behind
+          ∙ said_on m old seg next ∙ c.loop-machine.invariant.said;
       at = end ∙ ap (λ (n : ℕ). n + length seg.bytes) front.start ∙ sym front.place;
       count = omega (arith, ap (λ (u : Said). u.course.count) right.1, counted m seg, end, front.start, c.loop-machine.invariant.at, c.loop-machine.invariant.count, some);
       short = omega (arith, end, c.in_ok-step.ensures.short);
