@@ -1,9 +1,9 @@
 //! The first frame of captured bytes.
 
-ghost use Rattle.std.specs.Prelude.{◌≡◌, ◌≤◌, ◌∷◌, ◌++◌, [], length, position, MatchOption};
-ghost use Rattle.std.specs.List.{position_or_len};
+ghost use Rattle.std.specs.Prelude.{◌≡◌, ◌+◌, ◌≤◌, ◌∷◌, ◌++◌, [], length, take, drop, position, true, MatchOption};
+ghost use Rattle.std.specs.List.{list_all, position_or_len};
 ghost use Rattle.block_check.specs.Crc16.{crc_of};
-ghost use Rattle.dex_line.specs.Bytes.{is_no_text};
+ghost use Rattle.dex_line.specs.Bytes.{is_no_text, is_text};
 ghost use Rattle.dex_line.specs.Captured.{IsFrameOfSize};
 ghost use Rattle.dex_line.specs.FirstFrame.{first_closed, first_of, first_opened, sized_seen, some_sized};
 ghost use Rattle.dex_line.specs.FrameShapes.{captured_seen};
@@ -99,8 +99,55 @@ fn closed_check(text: &[u8], closing: u8) -> u16
 }
 
 /// How many text bytes stand at the front.
-#[tactic(auto, using(crate::proofs::Judged::none_other, crate::proofs::Firsts::ends_inside))]
 fn text_length(bytes: &[u8]) -> usize
+    ensures count { result ≡ position_or_len is_no_text bytes.now }
+    ensures inside { result ≤ length bytes.now }
+{
+    let size = eights_length(bytes);
+    size + short_length(from_place(bytes, size))
+}
+
+/// How many of them stand in the eights at the front that have no other byte.
+fn eights_length(bytes: &[u8]) -> usize
+    ensures inside { result ≤ length bytes.now }
+    ensures text { list_all is_text (take result bytes.now) ≡ true }
+{
+    let mut size = 0;
+    while begins_with_eight(from_place(bytes, size)) {
+        size += 8;
+    }
+    size
+}
+
+fn from_place(bytes: &[u8], place: usize) -> &[u8]
+    requires { place ≤ length bytes.now }
+    ensures bytes { result.now ≡ drop place bytes.now }
+    ensures inside { place + length result.now ≡ length bytes.now }
+{
+    &bytes[place..]
+}
+
+/// Whether eight text bytes stand at the front.
+fn begins_with_eight(bytes: &[u8]) -> bool
+    ensures inside { result ≡ true → 8 ≤ length bytes.now }
+    ensures text { result ≡ true → list_all is_text (take 8 bytes.now) ≡ true }
+{
+    let [a, b, c, d, e, f, g, h, ..] = bytes else {
+        return false;
+    };
+    is_text_byte(*a)
+        && is_text_byte(*b)
+        && is_text_byte(*c)
+        && is_text_byte(*d)
+        && is_text_byte(*e)
+        && is_text_byte(*f)
+        && is_text_byte(*g)
+        && is_text_byte(*h)
+}
+
+/// How many text bytes stand at the front, one after another.
+#[tactic(auto, using(crate::proofs::Judged::none_other, crate::proofs::Firsts::ends_inside))]
+fn short_length(bytes: &[u8]) -> usize
     ensures count { result ≡ position_or_len is_no_text bytes.now }
     ensures inside { result ≤ length bytes.now }
 {
