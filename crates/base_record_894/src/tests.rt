@@ -20,9 +20,16 @@ fn reads_a_delivery(rt: HostRuntime) -> Result<(), Fail> {
     assert_eq!(rt; base.signature().mark.as_slice(), b"JONES".as_slice());
     assert_eq!(rt; seal.control.as_slice(), b"0001".as_slice());
     assert_eq!(rt; seal.check.get(), 0xC60A);
-    let Ok((_, _, amount)) = read_plain_894(rt.alloc(), DELIVERY) else {
+    Ok(())
+}
+
+#[test]
+fn reads_the_amount(rt: HostRuntime) -> Result<(), Fail> {
+    let Ok((base, seal, amount)) = read_plain_894(rt.alloc(), DELIVERY) else {
         return Err(Fail::from("refused"));
     };
+    assert_eq!(rt; base.quantity(), 15);
+    assert_eq!(rt; seal.check.get(), 0xC60A);
     assert_eq!(rt; amount.get(), 1600);
     Ok(())
 }

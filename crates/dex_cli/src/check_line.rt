@@ -1,16 +1,17 @@
 //! `check line`: the frames of captured bytes.
 
-ghost use Rattle.std.specs.Prelude.{◌≡◌, ◌++◌, map, length, codes, OnOk};
+ghost use Rattle.std.specs.Prelude.{◌≡◌, ◌++◌, map, length, codes, not, if◌then◌else◌, IfOk, OnOk};
 ghost use Rattle.std.specs.Fmt.{decimal};
 ghost use Rattle.dex_line.specs.Captured.{frames_in, is_refused};
-ghost use Rattle.dex_line.specs.FrameShapes.{frame_seen};
-ghost use Rattle.dex_cli.specs.Answers.{ChecksLine, has_refused as refuses_one};
+ghost use Rattle.dex_line.specs.FrameShapes.{captured_seen};
+ghost use Rattle.dex_cli.specs.Answers.{ChecksLine, has_refused};
 ghost use Rattle.dex_cli.specs.Texts.{both, line, shown, frame_text, frame_line, frames_text};
 
 use crate::answer::Answer;
 use crate::job::INPUT_BYTES;
 use crate::report::{put, put_count, put_number};
-use dex_line::{Frame, Frames};
+use crate::status::{DONE, INPUT_REFUSED};
+use dex_line::{Captured, Frames};
 use segments::SetReason;
 use std::alloc::{AllocError, Global};
 
@@ -27,58 +28,59 @@ pub fn check_line(input: Vec<u8>) -> Answer
     Answer::Line(input)
 }
 
-/// Whether a frame of the captured bytes is damaged or bad.
-pub fn has_refused(captured: &[u8]) -> bool
-    ensures { result ≡ refuses_one captured.now }
+/// Prints the frames of captured bytes, and answers the status.
+pub fn put_captured(alloc: Global, out: &mut Vec<u8>, captured: &[u8]) -> Result<u8, AllocError>
+    ensures text { OnOk result (out.new.items ≡ out.old.items ++ frames_text (frames_in captured.now)) }
+    ensures status { IfOk result (λ status. status ≡ (if has_refused captured.now then INPUT_REFUSED else DONE)) }
 {
-    let mut frames = Frames::new(captured);
-    while let Some((_, frame)) = frames.next() {
-        if is_refused_frame(&frame) {
-            return true;
-        }
+    if put_frames(alloc, out, captured)? {
+        Ok(DONE)
+    } else {
+        Ok(INPUT_REFUSED)
     }
-    false
 }
 
-fn is_refused_frame(frame: &Frame) -> bool
-    ensures { result ≡ is_refused (frame_seen frame.now) }
-{
-    matches!(frame, Frame::Damaged | Frame::Bad)
-}
-
-/// Prints a line for each frame.
-pub fn put_frames(alloc: Global, out: &mut Vec<u8>, captured: &[u8]) -> Result<(), AllocError>
-    ensures { OnOk result (out.new.items ≡ out.old.items ++ frames_text (frames_in captured.now)) }
+/// Prints a line for each frame, and tells whether all of them are right.
+fn put_frames(alloc: Global, out: &mut Vec<u8>, captured: &[u8]) -> Result<bool, AllocError>
+    ensures text { OnOk result (out.new.items ≡ out.old.items ++ frames_text (frames_in captured.now)) }
+    ensures right { IfOk result (λ right. right ≡ not (has_refused captured.now)) }
 {
     let mut frames = Frames::new(captured);
     while let Some((place, frame)) = frames.next() {
-        put_frame(alloc, out, place, &frame)?;
-        if is_refused_frame(&frame) {
-            return Ok(());
+        put_frame(alloc, out, place, frame)?;
+        if is_refused_frame(frame) {
+            return Ok(false);
         }
     }
-    put(out, "OK\n")
+    put(out, "OK\n")?;
+    Ok(true)
+}
+
+fn is_refused_frame(frame: Captured<'_>) -> bool
+    ensures { result ≡ is_refused (captured_seen frame.entry) }
+{
+    matches!(frame, Captured::Damaged | Captured::Bad)
 }
 
 fn put_frame(
     alloc: Global,
     out: &mut Vec<u8>,
     place: usize,
-    frame: &Frame,
+    frame: Captured<'_>,
 ) -> Result<(), AllocError>
-    ensures { OnOk result (out.new.items ≡ out.old.items ++ frame_line place (frame_seen frame.now)) }
+    ensures { OnOk result (out.new.items ≡ out.old.items ++ frame_line place (captured_seen frame.entry)) }
 {
     match frame {
-        Frame::Enq => put(out, "ENQ\n"),
-        Frame::Ack0 => put(out, "ACK0\n"),
-        Frame::Ack1 => put(out, "ACK1\n"),
-        Frame::Nak => put(out, "NAK\n"),
-        Frame::Eot => put(out, "EOT\n"),
-        Frame::Header(text) => put_header(out, text.as_slice()),
-        Frame::Block { last: false, text } => put_count(alloc, out, "BLOCK", text.len() as u64),
-        Frame::Block { last: true, text } => put_count(alloc, out, "LAST", text.len() as u64),
-        Frame::Damaged => put_refused(alloc, out, place, "DAMAGED"),
-        Frame::Bad => put_refused(alloc, out, place, "BAD"),
+        Captured::Enq => put(out, "ENQ\n"),
+        Captured::Ack0 => put(out, "ACK0\n"),
+        Captured::Ack1 => put(out, "ACK1\n"),
+        Captured::Nak => put(out, "NAK\n"),
+        Captured::Eot => put(out, "EOT\n"),
+        Captured::Header(text) => put_header(out, text),
+        Captured::Block { last: false, text } => put_count(alloc, out, "BLOCK", text.len() as u64),
+        Captured::Block { last: true, text } => put_count(alloc, out, "LAST", text.len() as u64),
+        Captured::Damaged => put_refused(alloc, out, place, "DAMAGED"),
+        Captured::Bad => put_refused(alloc, out, place, "BAD"),
     }
 }
 

@@ -78,12 +78,12 @@ fn print<K: Sink>(alloc: Global, answer: &Answer, sink: &mut K) -> u8
     ensures memory { result ≡ NO_MEMORY → Keeps (K.written sink.old) (K.written sink.new) }
     ensures count { K.faults sink.old ≤ K.faults sink.new }
 {
-    let text = match text_of(alloc, answer) {
-        Ok(text) => text,
+    let (text, status) = match text_of(alloc, answer) {
+        Ok(report) => report,
         Err(_) => return NO_MEMORY,
     };
     match write_all(sink, &text) {
-        Ok(()) => answer.status(),
+        Ok(()) => status,
         Err(_) => SINK_FAILED,
     }
 }

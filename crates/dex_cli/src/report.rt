@@ -1,13 +1,16 @@
 //! Growing a printed text.
 
-ghost use Rattle.std.specs.Prelude.{◌≡◌, ◌++◌, OnOk, IfOk};
+ghost use Rattle.std.specs.Prelude.{◌≡◌, ◌++◌, codes, OnOk, IfOk};
 ghost use Rattle.std.specs.Fmt.{decimal, signed_decimal};
-ghost use Rattle.dex_cli.specs.Texts.{line, both, printed};
+ghost use Rattle.dex_cli.specs.Answers.{status_of};
+ghost use Rattle.dex_cli.specs.Texts.{line, both, reason_text, printed};
 
 use crate::answer::Answer;
-use crate::check_line::put_frames;
+use crate::check_line::put_captured;
 use crate::reasons::put_reason;
+use crate::status::{DONE, INPUT_REFUSED, SOURCE_FAILED, WORDS_REFUSED};
 use crate::summary::put_summary;
+use segments::SetReason;
 use std::alloc::{AllocError, Global};
 
 pub fn put(out: &mut Vec<u8>, text: &str) -> Result<(), AllocError>
@@ -58,29 +61,52 @@ pub fn put_count(alloc: Global, out: &mut Vec<u8>, name: &str, count: u64) -> Re
 }
 
 #[tactic(auto, unfolding(crate::specs::Texts::printed))]
-fn put_answer(alloc: Global, out: &mut Vec<u8>, answer: &Answer) -> Result<(), AllocError>
-    ensures { OnOk result (out.new.items ≡ out.old.items ++ printed answer.now) }
+fn put_answer(alloc: Global, out: &mut Vec<u8>, answer: &Answer) -> Result<u8, AllocError>
+    ensures text { OnOk result (out.new.items ≡ out.old.items ++ printed answer.now) }
+    ensures status { IfOk result (λ status. status ≡ status_of answer.now) }
 {
     match answer {
-        Answer::Words => put(out, "WORDS\n"),
-        Answer::SourceFault => put(out, "FAULT SOURCE\n"),
-        Answer::Refused { place, reason } => {
-            put(out, "REFUSED ")?;
-            put_number(alloc, out, *place as u64)?;
-            put(out, " ")?;
-            put_reason(alloc, out, reason)?;
-            put(out, "\n")
+        Answer::Words => {
+            put(out, "WORDS\n")?;
+            Ok(WORDS_REFUSED)
         }
-        Answer::Set(summary) => put_summary(alloc, out, summary),
-        Answer::Line(captured) => put_frames(alloc, out, captured),
+        Answer::SourceFault => {
+            put(out, "FAULT SOURCE\n")?;
+            Ok(SOURCE_FAILED)
+        }
+        Answer::Refused { place, reason } => {
+            put_refusal(alloc, out, *place, reason)?;
+            Ok(INPUT_REFUSED)
+        }
+        Answer::Set(summary) => {
+            put_summary(alloc, out, summary)?;
+            Ok(DONE)
+        }
+        Answer::Line(captured) => put_captured(alloc, out, captured),
     }
 }
 
-/// All that is printed for an answer.
-pub fn text_of(alloc: Global, answer: &Answer) -> Result<Vec<u8>, AllocError>
-    ensures { IfOk result (λ text. text.items ≡ printed answer.now) }
+fn put_refusal(
+    alloc: Global,
+    out: &mut Vec<u8>,
+    place: usize,
+    reason: &SetReason,
+) -> Result<(), AllocError>
+    ensures { OnOk result (out.new.items ≡ out.old.items ++ line (both (codes "REFUSED") (both (decimal place) (reason_text reason.now)))) }
+{
+    put(out, "REFUSED ")?;
+    put_number(alloc, out, place as u64)?;
+    put(out, " ")?;
+    put_reason(alloc, out, reason)?;
+    put(out, "\n")
+}
+
+/// All that is printed for an answer, with the status that goes with it.
+pub fn text_of(alloc: Global, answer: &Answer) -> Result<(Vec<u8>, u8), AllocError>
+    ensures text { IfOk result (λ report. report.0.items ≡ printed answer.now) }
+    ensures status { IfOk result (λ report. report.1 ≡ status_of answer.now) }
 {
     let mut text = Vec::new(alloc);
-    put_answer(alloc, &mut text, answer)?;
-    Ok(text)
+    let status = put_answer(alloc, &mut text, answer)?;
+    Ok((text, status))
 }

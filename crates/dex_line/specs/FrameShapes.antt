@@ -2,6 +2,8 @@
 use Rattle.std.specs.Prelude.{ℕ, Bool, List, [], ◌∷◌, Option, Some, None}
 use Rattle.dex_line.specs.declared.frame.Frame.{Frame}
 use Rattle.dex_line.specs.declared.frame.Frame.TheVariants as frames
+use Rattle.dex_line.specs.declared.lent.Captured.{Captured}
+use Rattle.dex_line.specs.declared.lent.Captured.TheVariants as lent
 
 -- A block tells besides whether it is the last of its text. Damaged is a header or block whose check is another one,
 -- and Bad is what is no frame.
@@ -26,6 +28,18 @@ frame_seen (frames.Header text) = Header text.items
 frame_seen (frames.Block last text) = Block last text.items
 frame_seen frames.Damaged = Damaged
 frame_seen frames.Bad = Bad
+
+-- a frame that is lent out of captured bytes
+abbrev pub captured_seen : Captured → FrameShape
+captured_seen lent.Enq = Enq
+captured_seen lent.Ack0 = Ack0
+captured_seen lent.Ack1 = Ack1
+captured_seen lent.Nak = Nak
+captured_seen lent.Eot = Eot
+captured_seen (lent.Header text) = Header text.now
+captured_seen (lent.Block last text) = Block last text.now
+captured_seen lent.Damaged = Damaged
+captured_seen lent.Bad = Bad
 
 -- an answer of the scanner
 abbrev pub answer_seen : Option Frame → Option FrameShape

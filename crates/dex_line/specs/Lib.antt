@@ -5,6 +5,7 @@ pub mod Judging
 pub mod Scanning
 pub mod Hearing
 pub mod Captured
+pub mod FirstFrame
 pub mod TextUnits
 pub mod BlockCut
 pub mod Occurrence

@@ -4,9 +4,11 @@
 mod begun;
 mod bytes;
 mod cutter;
+mod first;
 mod frame;
 mod frames;
 pub mod laws;
+mod lent;
 mod scanner;
 mod spelling;
 #[cfg(test)]
@@ -16,5 +18,6 @@ mod units;
 pub use cutter::{BLOCK_WRITTEN, Cutter};
 pub use frame::{BLOCK_READ, Frame, HEADER_BYTES};
 pub use frames::Frames;
+pub use lent::Captured;
 pub use scanner::Scanner;
 pub use spelling::spell;

@@ -21,6 +21,21 @@ fn kind(frame: &Frame) -> &'static str {
     }
 }
 
+fn captured_kind(frame: Captured<'_>) -> &'static str {
+    match frame {
+        Captured::Enq => "ENQ",
+        Captured::Ack0 => "ACK0",
+        Captured::Ack1 => "ACK1",
+        Captured::Nak => "NAK",
+        Captured::Eot => "EOT",
+        Captured::Header(_) => "HEADER",
+        Captured::Block { last: false, .. } => "BLOCK",
+        Captured::Block { last: true, .. } => "LAST",
+        Captured::Damaged => "DAMAGED",
+        Captured::Bad => "BAD",
+    }
+}
+
 /// How many frames captured bytes have, and the place and kind of the last one.
 fn walk(bytes: &[u8]) -> (usize, usize, &'static str) {
     let mut frames = Frames::new(bytes);
@@ -29,7 +44,7 @@ fn walk(bytes: &[u8]) -> (usize, usize, &'static str) {
         let Some((place, frame)) = frames.next() else {
             return found;
         };
-        found = (count, place, kind(&frame));
+        found = (count, place, captured_kind(frame));
     }
     found
 }
