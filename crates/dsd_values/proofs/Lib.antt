@@ -7,3 +7,4 @@ pub mod Decimals
 pub mod Laws
 pub mod ReadBack
 pub mod Elements
+pub mod Behinds

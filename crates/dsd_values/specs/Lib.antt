@@ -3,3 +3,4 @@ pub mod Reading
 pub mod Calendar
 pub mod Spelling
 pub mod Writing
+pub mod Behind

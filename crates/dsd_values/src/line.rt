@@ -1,10 +1,11 @@
 //! Lines of a delivery.
 
 ghost use Rattle.std.specs.Prelude.{◌≡◌, [], ◌∷◌, ◌++◌, IfOk, OnErr, OnOk};
+ghost use Rattle.dsd_values.specs.Behind.{with_extra};
 
 use crate::cost::Cost;
 use crate::dsd_number::DsdNumber;
-use crate::extra::Extras;
+use crate::extra::{Extra, Extras};
 use crate::fault::Memory;
 use crate::kept::Kept;
 use crate::quantity::Quantity;
@@ -81,6 +82,20 @@ impl Lines {
     {
         self.items.push(item)?;
         Ok(())
+    }
+
+    /// Adds an extra behind the last line, where there is one.
+    #[tactic(auto, using(crate::proofs::Behinds::with_extra_last))]
+    pub fn push_extra(&mut self, extra: Extra) -> Result<(), Memory>
+        ensures ok { OnOk result (self.new ≡ with_extra extra self.old) }
+        ensures err { OnErr result (self.new ≡ self.old) }
+    {
+        let Some(mut line) = self.items.pop() else {
+            return Ok(());
+        };
+        let pushed = line.extras.push(extra);
+        self.items.push_reserved(line);
+        pushed
     }
 
     pub fn as_slice(&self) -> &[Line]

@@ -1,5 +1,5 @@
 -- Segments whose elements are all right say what the grammar asks, and those that say it are right.
-use Rattle.std.proofs.Common.{◌≡◌, ℕ, ◌+◌, Bool, true, false, List, [], ◌∷◌, Option, Some, None, Result, Ok, Err, drop, refl, sym, ap, ◌∙◌, if◌then◌else◌}
+use Rattle.std.proofs.Common.{◌≡◌, ℕ, ◌+◌, Bool, true, false, List, [], ◌∷◌, ◌++◌, Option, Some, None, Result, Ok, Err, drop, refl, sym, ap, ◌∙◌, if◌then◌else◌}
 use Rattle.std.specs.Str.{bytes_eq}
 use Rattle.dsd_values.specs.declared.extra.Extra.{Extra}
 use Rattle.dsd_values.specs.declared.line.Line.{Line}
@@ -41,6 +41,22 @@ item_right seg e1 =
       tail = refl;
     }
 
+-- what stands behind a line is no element of it
+pub item_beside : (extras : List Extra) (line : Line) (seg : Seg) → IsItem line seg → IsItem (record line { extras = line.extras ++ extras }) seg
+item_beside extras line seg i = record {
+  dsd = i.dsd;
+  quantity = i.quantity;
+  unit = i.unit;
+  upc = i.upc;
+  qualifier = i.qualifier;
+  id = i.id;
+  case_code = i.case_code;
+  cost = i.cost;
+  pack = i.pack;
+  label = i.label;
+  tail = i.tail;
+}
+
 pub right_item : (line : Line) (seg : Seg) → IsItem line seg → item_fault seg ≡ None
 right_item line seg i =
     none_then _ _ (ok_at 1 _ _ i.dsd) (none_then _ _ (ok_at 2 _ _ i.quantity) (none_then _ _ (ok_at 3 _ _ i.unit)
@@ -65,10 +81,11 @@ same_line a b e1 e2 e3 e4 e5 e6 e7 e8 e9 e10 e11 e12 =
     ∙ ap (λ (v : List ℕ). line_of b.dsd b.quantity b.unit b.upc b.qualifier b.id b.case_code b.cost b.pack b.label v a.extras) e11
     ∙ ap (λ (v : List Extra). line_of b.dsd b.quantity b.unit b.upc b.qualifier b.id b.case_code b.cost b.pack b.label b.tail v) e12
 
-pub line_said : (line : Line) (seg : Seg) → line.extras ≡ [] → IsItem line seg → line ≡ line_in seg
-line_said line seg none i = same_line line (line_in seg)
+-- a line is what its item says, and the extras behind it
+pub line_said : (line : Line) (seg : Seg) → IsItem line seg → line ≡ record (line_in seg) { extras = line.extras }
+line_said line seg i = same_line line (record (line_in seg) { extras = line.extras })
     (ok_said 0 _ _ i.dsd) (ok_said 0 _ _ i.quantity) (ok_said [] _ _ i.unit) (ok_said [] _ _ i.upc) (ok_said [] _ _ i.qualifier) (ok_said [] _ _ i.id)
-    (ok_said [] _ _ i.case_code) (ok_said 0 _ _ i.cost) (ok_said [] _ _ i.pack) (ok_said [] _ _ i.label) (sym i.tail) none
+    (ok_said [] _ _ i.case_code) (ok_said 0 _ _ i.cost) (ok_said [] _ _ i.pack) (ok_said [] _ _ i.label) (sym i.tail) refl
 
 -- ---- starts and labels
 

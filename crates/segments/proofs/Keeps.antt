@@ -1,8 +1,13 @@
 -- What stays along a course.
-use Rattle.std.proofs.Common.{◌≡◌, ℕ, ◌+◌, ◌≤◌, ◌<◌, Bool, true, false, List, [], ◌∷◌, ◌++◌, length, Some, None, Option, refl, sym, ap, ◌∙◌, arith, length-append}
+use Rattle.std.proofs.Common.{◌≡◌, ℕ, ◌+◌, ◌≤◌, ◌<◌, Bool, true, false, cond, List, [], ◌∷◌, ◌++◌, length, Some, None, Option, refl, sym, ap, ◌∙◌, arith, length-append}
 use Rattle.block_check.specs.Crc16.{crc_from, crc_of}
 use Rattle.dsd_values.specs.declared.line.Line.{Line}
-use Rattle.dsd_values.specs.declared.limits.TheConstants.{MOST_LINES, SET_BYTES}
+use Rattle.dsd_values.specs.declared.limits.TheConstants.{MOST_ALLOWANCES, MOST_LINES, SET_BYTES}
+use Rattle.dsd_values.specs.Behind.{with_extra}
+use Rattle.dsd_values.specs.declared.extra.Extra.{Extra}
+use Rattle.dsd_values.specs.declared.extra.Extra.TheVariants.{Allow, Note}
+use Rattle.std.specs.List.{All}
+use Rattle.std.proofs.lemmas.List.Elements.{All-weaker}
 use Rattle.segments.specs.declared.segment_fault.SegmentFault.{SegmentFault}
 use Rattle.segments.specs.declared.set_fault.SetReason.{SetReason}
 use Rattle.segments.specs.declared.kind.Form.{Form}
@@ -13,14 +18,19 @@ use Rattle.segments.specs.declared.phase.Phase.TheVariants as phases
 use Rattle.segments.specs.Views.{Seg}
 use Rattle.segments.specs.Tables.{line_in}
 use Rattle.segments.specs.Kinds.{next_phase, is_done}
-use Rattle.segments.specs.SoFar.{SoFar, kept, phase_in}
-use Rattle.segments.specs.Reasons.{course_reason, admission, order_reason, not_yet_reason, length_reason}
+use Rattle.segments.specs.SoFar.{SoFar, extras_after, in_line, kept, lines_after, phase_in}
+use Rattle.segments.specs.Allowances.{allowance_in}
+use Rattle.segments.specs.Extras.{AreExtras, HasExtras, IsSized, allowances, kept_text}
+use Rattle.segments.specs.Numbers.{HasRoom}
+use Rattle.segments.specs.Reasons.{allowance_reason, course_reason, admission, last_extras, order_reason, length_reason}
 use Rattle.segments.specs.Refusal.{Refusal, refused_at, ended_at}
-use Rattle.segments.specs.Grammar.{AreApart, bytes_of}
-use Rattle.segments.proofs.Small.{both_none, none_then, not_when, when_not, less, at_most, not_lt}
+use Rattle.segments.specs.Grammar.{AreApart, IsSound, bytes_of}
+use Rattle.segments.proofs.Small.{both_none, none_then, no_value, not_when, when_not, less, at_most, not_lt}
 use Rattle.segments.proofs.Apart.{apart_push, check_on, bytes_more}
 use Rattle.segments.proofs.Rest.{IsAt}
-use Rattle.segments.proofs.Back.{moves, is_plain}
+use Rattle.segments.proofs.Back.{moves}
+use Rattle.segments.proofs.Behind.{apart_extra, behind_extra, behind_push, extras_push, length_extra}
+use Rattle.segments.proofs.RightAllowances.{allowance_right}
 
 pub refused_none : (r : Option SetReason) (place : ℕ) (later : Option Refusal) → refused_at r place later ≡ None → (r ≡ None) × (later ≡ None)
 refused_none (Some r) place later e = cc
@@ -59,23 +69,62 @@ at_next m before seg kind phase at = (
   ap (λ (c : ℕ). crc_from c seg.bytes) at.1 ∙ sym (check_on 0 (bytes_of before) seg.bytes) ∙ ap (λ (bytes : List ℕ). crc_of bytes) (sym (bytes_more before seg)),
 )
 
--- what holds of the lines, all along
-abbrev pub Sound : List Line → Type 0
-Sound lines = AreApart lines × (length lines ≤ MOST_LINES)
+-- what holds of the lines and of the extras of the record, all along
+abbrev pub Sound : List Line → List Extra → Type 0
+Sound lines extras = AreApart lines × (length lines ≤ MOST_LINES) × All HasExtras lines × AreExtras false extras
 
-pub keeps : (kind : Kind) (m : SoFar) (seg : Seg) (phase : Phase) (count check : ℕ) → course_reason m seg kind ≡ None → Sound m.lines → Sound (kept m seg kind phase count check).lines
-unfolding kept
-keeps kinds.Item m seg phase count check e (apart, most) =
+-- one more extra leaves it so
+sound_inside : (extra : Extra) (lines : List Line) (extras : List Extra) → IsSized true extra → HasRoom extra (last_extras lines) → Sound lines extras → Sound (with_extra extra lines) extras
+sound_inside extra lines extras sized room (apart, most, behind, right) =
+    (apart_extra extra lines apart, omega (arith, length_extra extra lines, most), behind_extra extra lines behind sized room, right)
+
+sound_beside : (extra : Extra) (lines : List Line) (extras : List Extra) → IsSized false extra → HasRoom extra extras → Sound lines extras → Sound lines (extras ++ extra ∷ [])
+sound_beside extra lines extras sized room (apart, most, behind, right) = (apart, most, behind, extras_push false extras extra right sized room)
+
+allowance_sound : (b : Bool) (line : Line) (seg : Seg) (lines : List Line) (extras : List Extra) → allowance_reason b (allowances (cond b (last_extras lines) extras)) seg ≡ None → Sound lines extras
+    → Sound (lines_after kinds.Allowance b line (Allow (allowance_in seg)) lines) (extras_after kinds.Allowance b (Allow (allowance_in seg)) extras)
+allowance_sound true line seg lines extras e s =
     let room = both_none _ _ e in
-    let right = both_none _ _ room.1 in
+    sound_inside (Allow (allowance_in seg)) lines extras (allowance_right true seg (no_value _ room.1)).size (less MOST_ALLOWANCES (allowances (last_extras lines)) (not_when _ _ room.0)) s
+allowance_sound false line seg lines extras e s =
+    let room = both_none _ _ e in
+    sound_beside (Allow (allowance_in seg)) lines extras (allowance_right false seg (no_value _ room.1)).size (less MOST_ALLOWANCES (allowances extras) (not_when _ _ room.0)) s
+
+line_note_sound : (b : Bool) (line : Line) (text : List ℕ) (lines : List Line) (extras : List Extra) → Sound lines extras
+    → Sound (lines_after kinds.LineNote b line (Note text) lines) (extras_after kinds.LineNote b (Note text) extras)
+line_note_sound true line text lines extras s = sound_inside (Note text) lines extras tt tt s
+line_note_sound false line text lines extras s = sound_beside (Note text) lines extras tt tt s
+
+note_sound : (b : Bool) (line : Line) (text : List ℕ) (lines : List Line) (extras : List Extra) → Sound lines extras
+    → Sound (lines_after kinds.Note b line (Note text) lines) (extras_after kinds.Note b (Note text) extras)
+note_sound true line text lines extras s = sound_inside (Note text) lines extras tt tt s
+note_sound false line text lines extras s = sound_beside (Note text) lines extras tt tt s
+
+pub keeps : (kind : Kind) (m : SoFar) (seg : Seg) (phase : Phase) (count check : ℕ) → course_reason m seg kind ≡ None → Sound m.lines m.extras
+    → Sound (kept m seg kind phase count check).lines (kept m seg kind phase count check).extras
+unfolding kept
+keeps kinds.Item m seg phase count check e (apart, most, behind, right) =
+    let room = both_none _ _ e in
+    let new = both_none _ _ room.1 in
     let under : length m.lines < MOST_LINES = less MOST_LINES (length m.lines) (not_when _ _ room.0) in
-    (apart_push m.lines (line_in seg) apart (not_when _ _ right.1), omega (arith, length-append m.lines (line_in seg ∷ []), under))
+    (apart_push m.lines (line_in seg) apart (not_when _ _ new.1), omega (arith, length-append m.lines (line_in seg ∷ []), under), behind_push m.lines (line_in seg) behind refl, right)
+keeps kinds.Allowance m seg phase count check e s = allowance_sound (in_line m.phase) (line_in seg) seg m.lines m.extras e s
+keeps kinds.LineNote m seg phase count check e s = line_note_sound (in_line m.phase) (line_in seg) (kept_text seg) m.lines m.extras s
+keeps kinds.Note m seg phase count check e s = note_sound (in_line m.phase) (line_in seg) (kept_text seg) m.lines m.extras s
 keeps _ m seg phase count check e s = s
 
--- A segment of this kind may stand there, is plain, and ends where a set may end.
+-- a sound set has few allowances
+pub is_sound : (lines : List Line) (extras : List Extra) → Sound lines extras → IsSound lines extras
+is_sound lines extras (apart, most, behind, right) = record {
+  apart = apart;
+  limit = most;
+  behind = All-weaker HasExtras (λ (line : Line). allowances line.extras ≤ MOST_ALLOWANCES) (λ line h. h.few) lines behind;
+  beside = right.few;
+}
+
+-- A segment of this kind may stand there, and ends where a set may end.
 pub record MayStand (form : Form) (phase : Phase) (kind : Kind) (seg : Seg) : Type 0 where
   pub moves_on : moves (next_phase phase kind form) ≡ true
-  pub plain : is_plain kind ≡ true
   pub short : seg.start + length seg.bytes ≤ SET_BYTES
 
 order_moves : (next : Option Phase) → order_reason next ≡ None → moves next ≡ true
@@ -86,27 +135,12 @@ moves_order : (next : Option Phase) → moves next ≡ true → order_reason nex
 moves_order None e = cc
 moves_order (Some phase) e = refl
 
-plain_kind : (kind : Kind) (seg : Seg) → not_yet_reason kind seg ≡ None → is_plain kind ≡ true
-plain_kind kinds.Reference seg e = cc
-plain_kind kinds.Allowance seg e = cc
-plain_kind kinds.LineNote seg e = cc
-plain_kind kinds.Note seg e = cc
-plain_kind _ seg e = refl
-
-kind_plain : (kind : Kind) (seg : Seg) → is_plain kind ≡ true → not_yet_reason kind seg ≡ None
-kind_plain kinds.Reference seg e = cc
-kind_plain kinds.Allowance seg e = cc
-kind_plain kinds.LineNote seg e = cc
-kind_plain kinds.Note seg e = cc
-kind_plain _ seg e = refl
-
 pub may_stand : (form : Form) (phase : Phase) (kind : Kind) (seg : Seg) → admission form phase kind seg ≡ None → MayStand form phase kind seg
 unfolding admission
 may_stand form phase kind seg e =
     let a = both_none _ _ e in
-    let b = both_none _ _ a.1 in
-    record { moves_on = order_moves _ a.0; plain = plain_kind kind seg b.0; short = at_most SET_BYTES _ (not_when _ _ b.1) }
+    record { moves_on = order_moves _ a.0; short = at_most SET_BYTES _ (not_when _ _ a.1) }
 
-pub admitted : (form : Form) (phase : Phase) (kind : Kind) (seg : Seg) → moves (next_phase phase kind form) ≡ true → is_plain kind ≡ true → seg.start + length seg.bytes ≤ SET_BYTES → admission form phase kind seg ≡ None
+pub admitted : (form : Form) (phase : Phase) (kind : Kind) (seg : Seg) → moves (next_phase phase kind form) ≡ true → seg.start + length seg.bytes ≤ SET_BYTES → admission form phase kind seg ≡ None
 unfolding admission
-admitted form phase kind seg m p s = none_then _ _ (moves_order _ m) (none_then _ _ (kind_plain kind seg p) (when_not _ _ (not_lt SET_BYTES _ s)))
+admitted form phase kind seg m s = none_then _ _ (moves_order _ m) (when_not _ _ (not_lt SET_BYTES _ s))

@@ -1,6 +1,7 @@
 pub mod Small
 pub mod Faultless
 pub mod Apart
+pub mod Behind
 pub mod Rest
 pub mod Back
 pub mod Forth

@@ -117,7 +117,7 @@ has_a_size in_line seg method total rate quantity percent a q s c =
 
 -- ---- both ways
 
-allowance_right : (in_line : Bool) (seg : Seg) → allowance_fault in_line seg ≡ None → IsAllowance in_line (allowance_in seg) seg
+pub allowance_right : (in_line : Bool) (seg : Seg) → allowance_fault in_line seg ≡ None → IsAllowance in_line (allowance_in seg) seg
 allowance_right in_line seg e1 =
     let a1 = both_none _ _ e1 in
     let a2 = both_none _ _ a1.1 in
@@ -194,3 +194,10 @@ pub allowance_only : (in_line : Bool) (seg : Seg) (answer : Result Allowance Ite
 allowance_only in_line seg (Ok read) h allowance i = let same : read ≡ allowance = h.1 ∙ sym (allowance_said in_line allowance seg i) in inr (ap (λ (a : Allowance). Ok a) same)
 allowance_only in_line seg (Err errors.Memory) h allowance i = inl refl
 allowance_only in_line seg (Err (errors.Value element why)) h allowance i = let none = right_allowance in_line allowance seg i in cc
+
+-- the same of an answer about the set
+pub allowance_in_set : (in_line : Bool) (seg : Seg) (read : Result Allowance ItemFault) (answer : Result Allowance SetFault) → Reads read (allowance_fault in_line seg) (λ allowance. allowance ≡ allowance_in seg)
+    → answer ≡ at_segment seg.start read → OnOk answer (HasSize in_line (allowance_in seg))
+allowance_in_set in_line seg (Ok allowance) answer h same = subst (λ (a : Result Allowance SetFault). OnOk a (HasSize in_line (allowance_in seg))) (sym same) (allowance_right in_line seg h.0).size
+allowance_in_set in_line seg (Err errors.Memory) answer h same = subst (λ (a : Result Allowance SetFault). OnOk a (HasSize in_line (allowance_in seg))) (sym same) tt
+allowance_in_set in_line seg (Err (errors.Value element why)) answer h same = subst (λ (a : Result Allowance SetFault). OnOk a (HasSize in_line (allowance_in seg))) (sym same) tt

@@ -1,18 +1,21 @@
 -- Which lists of segments are sets: the grammar that both sets share (this project's profile), driven by the value. An
 -- element spells a field where its reader answers that field; dsd_values says of each reader which texts those are.
-use Rattle.std.specs.Prelude.{◌≡◌, ℕ, ◌+◌, ◌<◌, ◌≤◌, Bool, false, List, [], ◌∷◌, ◌++◌, length, drop, Ok, Option}
+use Rattle.std.specs.Prelude.{◌≡◌, ℕ, ◌+◌, ◌<◌, ◌≤◌, Bool, true, false, List, [], ◌∷◌, ◌++◌, length, drop, All, Ok, Option}
 use Rattle.std.specs.List.{flat_map}
 use Rattle.block_check.specs.Crc16.{crc_of}
 use Rattle.dsd_values.specs.Reading.{plain_number_of, dsd_of, quantity_of, total_quantity_of, cents_of, cost_of, check_of, word_of, filled_word_of, word_between}
+use Rattle.dsd_values.specs.declared.extra.Extra.{Extra}
 use Rattle.dsd_values.specs.declared.line.Line.{Line}
 use Rattle.dsd_values.specs.declared.signature.Signature.{Signature}
-use Rattle.dsd_values.specs.declared.limits.TheConstants.{MOST_LINES}
+use Rattle.dsd_values.specs.declared.limits.TheConstants.{MOST_ALLOWANCES, MOST_LINES}
 use Rattle.segments.specs.Views.{Seg, element_of}
 use Rattle.segments.specs.Elements.{optional, tail_from}
+use Rattle.segments.specs.Extras.{IsExtra, allowances, kept_text}
 use Rattle.segments.specs.Kinds.{kind_of}
 use Rattle.segments.specs.Reasons.{has_line}
 use Rattle.segments.specs.declared.stated.StatedTotals.{StatedTotals}
 use Rattle.segments.specs.declared.kind.Form.{Form}
+use Rattle.segments.specs.declared.kind.Form.TheVariants as forms
 use Rattle.segments.specs.declared.kind.Kind.{Kind}
 use Rattle.segments.specs.declared.kind.Kind.TheVariants as kinds
 
@@ -24,6 +27,11 @@ Shape = List Seg → List Seg → Type 0
 abbrev pub One : Form → Kind → (List Seg → Seg → Type 0) → Shape → Shape
 One form kind Says rest before [] = ⊥
 One form kind Says rest before (seg ∷ segs) = (kind_of form seg ≡ kind) × Says before seg × rest (before ++ seg ∷ []) segs
+
+-- one that says this extra, in a line or at record level, and then the rest
+abbrev pub OneExtra : Bool → Form → Extra → Shape → Shape
+OneExtra in_line form extra rest before [] = ⊥
+OneExtra in_line form extra rest before (seg ∷ segs) = IsExtra in_line extra (kind_of form seg) seg × rest (before ++ seg ∷ []) segs
 
 -- nothing more
 abbrev pub End : Shape
@@ -78,7 +86,9 @@ pub record IsSignature (signature : Signature) (seg : Seg) : Type 0 where
 
 pub record Shared : Type 0 where
   pub control : List ℕ
+  pub references : List (List ℕ)
   pub lines : List Line
+  pub extras : List Extra
   pub totals : StatedTotals
   pub signature : Signature
   pub check : ℕ
@@ -111,10 +121,15 @@ Signed form t = One form kinds.Signature (λ _ seg. IsSignature t.signature seg)
 abbrev pub Closing : Form → Shared → Shape
 Closing form t = One form kinds.Totals (λ _ seg. IsTotals t.totals seg) (Signed form t)
 
--- an item for each of these lines, and then the rest; a plain set has nothing behind its items
+-- these extras, and then the rest
+abbrev pub Extras : Bool → Form → List Extra → Shape → Shape
+Extras in_line form [] rest before segs = rest before segs
+Extras in_line form (extra ∷ extras) rest before segs = OneExtra in_line form extra (Extras in_line form extras rest) before segs
+
+-- an item with its extras for each of these lines, and then the rest
 abbrev pub Items : Form → List Line → Shape → Shape
 Items form [] rest before segs = rest before segs
-Items form (line ∷ lines) rest before segs = (line.extras ≡ []) × One form kinds.Item (λ _ seg. IsItem line seg) (Items form lines rest) before segs
+Items form (line ∷ lines) rest before segs = One form kinds.Item (λ _ seg. IsItem line seg) (Extras true form line.extras (Items form lines rest)) before segs
 
 -- LE, which repeats the id of its loop, and then the rest
 abbrev pub LoopEnd : Form → List ℕ → Shape → Shape
@@ -126,9 +141,30 @@ Loop form [] rest before segs = rest before segs
 Loop form (line ∷ lines) rest before segs =
     (loop_id : List ℕ) × One form kinds.LoopStart (λ _ seg. IsLoopId loop_id seg) (Items form (line ∷ lines) (LoopEnd form loop_id rest)) before segs
 
--- a loop where there are lines, and the closing
-abbrev pub Body : List Line → Form → Shared → Shape
-Body lines form t = Loop form lines (Closing form t)
+-- the extras of the record, of which an answer has none
+abbrev pub Record : Form → List Extra → Shape → Shape
+Record forms.Base extras rest before segs = Extras false forms.Base extras rest before segs
+Record forms.Answer [] rest before segs = rest before segs
+Record forms.Answer (extra ∷ extras) rest before segs = ⊥
+
+-- a loop where there are lines, the extras of the record, and the closing
+abbrev pub Body : Form → List Line → List Extra → Shared → Shape
+Body form lines extras t = Loop form lines (Record form extras (Closing form t))
+
+-- one reference as it is kept, and then the rest
+abbrev pub OneReference : Form → List ℕ → Shape → Shape
+OneReference form text rest = One form kinds.Reference (λ _ seg. kept_text seg ≡ text) rest
+
+-- the references: any number behind the head of a base record, at most one behind that of an answer
+abbrev pub References : Form → List (List ℕ) → Shape → Shape
+References form [] rest before segs = rest before segs
+References forms.Base (text ∷ texts) rest before segs = OneReference forms.Base text (References forms.Base texts rest) before segs
+References forms.Answer (text ∷ []) rest before segs = OneReference forms.Answer text rest before segs
+References forms.Answer (text ∷ next ∷ texts) rest before segs = ⊥
+
+-- what stands behind the head
+abbrev pub BehindHead : Form → Shared → Shape
+BehindHead form t = References form t.references (Body form t.lines t.extras t)
 
 -- ---- what holds of the lines as a whole
 
@@ -137,7 +173,9 @@ abbrev pub AreApart : List Line → Type 0
 AreApart [] = Unit {0}
 AreApart (line ∷ lines) = (has_line line.dsd lines ≡ false) × AreApart lines
 
--- what a set asks of its lines
-pub record IsSound (lines : List Line) : Type 0 where
+-- what a set asks of its lines and of the extras of its record
+pub record IsSound (lines : List Line) (extras : List Extra) : Type 0 where
   pub apart : AreApart lines
   pub limit : length lines ≤ MOST_LINES
+  pub behind : All (λ (line : Line). allowances line.extras ≤ MOST_ALLOWANCES) lines
+  pub beside : allowances extras ≤ MOST_ALLOWANCES

@@ -5,6 +5,8 @@ pub mod PartEnds
 pub mod Elements
 pub mod Tables
 pub mod Kinds
+pub mod Allowances
+pub mod Extras
 pub mod SoFar
 pub mod Reasons
 pub mod Refusal
@@ -14,5 +16,4 @@ pub mod Closing
 pub mod Order
 pub mod CutSpelling
 pub mod SegmentRefusal
-pub mod Allowances
 pub mod SegmentWriting

@@ -4,13 +4,16 @@ use Rattle.std.specs.List.{list_any}
 use Rattle.std.specs.Str.{bytes_eq}
 use Rattle.dsd_values.specs.declared.fault.ValueFault.TheVariants as faults
 use Rattle.dsd_values.specs.declared.line.Line.{Line}
-use Rattle.dsd_values.specs.declared.limits.TheConstants.{MOST_LINES, SET_BYTES}
+use Rattle.dsd_values.specs.declared.extra.Extra.{Extra}
+use Rattle.dsd_values.specs.declared.limits.TheConstants.{MOST_ALLOWANCES, MOST_LINES, SET_BYTES}
 use Rattle.segments.specs.Views.{Seg, element_of}
 use Rattle.segments.specs.Elements.{ElementFault, ◌or_else◌}
 use Rattle.segments.specs.Tables.{item_fault, line_in, start_fault, loop_start_fault, loop_id_in, totals_fault, signature_fault, integrity_fault, integrity_in, trailer_fault, stated_count_in, control_again_in}
 use Rattle.segments.specs.Elements.{at_element, no_more}
 use Rattle.segments.specs.Kinds.{next_phase}
-use Rattle.segments.specs.SoFar.{SoFar}
+use Rattle.segments.specs.Allowances.{allowance_fault}
+use Rattle.segments.specs.Extras.{allowances}
+use Rattle.segments.specs.SoFar.{SoFar, in_line}
 use Rattle.dsd_values.specs.Reading.{word_between}
 use Rattle.segments.specs.declared.set_fault.SetReason.{SetReason}
 use Rattle.segments.specs.declared.set_fault.SetReason.TheVariants as reasons
@@ -39,30 +42,13 @@ abbrev pub order_reason : Option Phase → Option SetReason
 order_reason None = Some reasons.Order
 order_reason (Some phase) = None
 
--- a segment that only later work reads
-abbrev pub not_yet_reason : Kind → Seg → Option SetReason
-not_yet_reason kinds.Reference seg = Some (reasons.NotYet (element_of seg 0))
-not_yet_reason kinds.Allowance seg = Some (reasons.NotYet (element_of seg 0))
-not_yet_reason kinds.LineNote seg = Some (reasons.NotYet (element_of seg 0))
-not_yet_reason kinds.Note seg = Some (reasons.NotYet (element_of seg 0))
-not_yet_reason kinds.Start seg = None
-not_yet_reason kinds.Head seg = None
-not_yet_reason kinds.LoopStart seg = None
-not_yet_reason kinds.Item seg = None
-not_yet_reason kinds.LoopEnd seg = None
-not_yet_reason kinds.Totals seg = None
-not_yet_reason kinds.Signature seg = None
-not_yet_reason kinds.Integrity seg = None
-not_yet_reason kinds.Trailer seg = None
-not_yet_reason kinds.Other seg = None
-
 -- it ends past the most bytes of a set
 abbrev pub length_reason : Seg → Option SetReason
 length_reason seg = when (nat_lt SET_BYTES (seg.start + length seg.bytes)) reasons.Limit
 
--- it may stand there, is read today, and ends within the length of a set
+-- it may stand there, and ends within the length of a set
 unfoldable pub admission : Form → Phase → Kind → Seg → Option SetReason
-admission form phase kind seg = order_reason (next_phase phase kind form) or_else not_yet_reason kind seg or_else length_reason seg
+admission form phase kind seg = order_reason (next_phase phase kind form) or_else length_reason seg
 
 -- ---- by its kind
 
@@ -76,6 +62,22 @@ item_reason lines seg =
     when (nat_le MOST_LINES (length lines)) reasons.Limit
     or_else as_value (item_fault seg)
     or_else when (has_line (line_in seg).dsd lines) (reasons.Twice (line_in seg).dsd)
+
+-- the extras of the last line
+abbrev pub last_extras : List Line → List Extra
+last_extras [] = []
+last_extras (line ∷ []) = line.extras
+last_extras (line ∷ next ∷ lines) = last_extras (next ∷ lines)
+
+-- the extras that one more stands beside: behind an item those of the last line, elsewhere those of the record
+abbrev pub beside : SoFar → List Extra
+beside m = if in_line m.phase then last_extras m.lines else m.extras
+
+-- one allowance too many beside so many others, or an element that is refused
+abbrev pub allowance_reason : Bool → ℕ → Seg → Option SetReason
+allowance_reason in_line others seg =
+    when (nat_le MOST_ALLOWANCES others) reasons.Limit
+    or_else as_value (allowance_fault in_line seg)
 
 -- LE repeats the loop id of LS
 abbrev pub loop_id_fault : List ℕ → Seg → Option ElementFault
@@ -110,8 +112,8 @@ course_reason m seg kinds.Signature = as_value (signature_fault seg)
 course_reason m seg kinds.Integrity = integrity_reason m.check seg
 course_reason m seg kinds.Trailer = trailer_reason m.control (m.count + 1) seg
 course_reason m seg kinds.Head = None
+course_reason m seg kinds.Allowance = allowance_reason (in_line m.phase) (allowances (beside m)) seg
 course_reason m seg kinds.Reference = None
-course_reason m seg kinds.Allowance = None
 course_reason m seg kinds.LineNote = None
 course_reason m seg kinds.Note = None
 course_reason m seg kinds.Other = None

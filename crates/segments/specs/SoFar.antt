@@ -1,10 +1,12 @@
 -- What the segments of a set say so far.
-use Rattle.std.specs.Prelude.{ℕ, ◌+◌, List, [], ◌∷◌, ◌++◌, Option, Some, None, Bool}
+use Rattle.std.specs.Prelude.{ℕ, ◌+◌, Bool, true, false, List, [], ◌∷◌, ◌++◌, Option, Some, None, if◌then◌else◌}
 use Rattle.block_check.specs.Crc16.{crc_from}
+use Rattle.dsd_values.specs.Behind.{with_extra}
+use Rattle.dsd_values.specs.declared.extra.Extra.{Extra}
 use Rattle.dsd_values.specs.declared.line.Line.{Line}
 use Rattle.dsd_values.specs.declared.signature.Signature.{Signature}
 use Rattle.segments.specs.Views.{Seg}
-use Rattle.segments.specs.Kinds.{next_phase}
+use Rattle.segments.specs.Extras.{kept_text, extra_in}
 use Rattle.segments.specs.Tables.{line_in, control_in, loop_id_in, totals_in, signature_in, integrity_in}
 use Rattle.segments.specs.declared.stated.StatedTotals.{StatedTotals}
 use Rattle.segments.specs.declared.kind.Kind.{Kind}
@@ -18,8 +20,11 @@ pub record SoFar : Type 0 where
   pub count : ℕ
   pub check : ℕ
   pub control : List ℕ
+  pub references : List (List ℕ)
   pub loop_id : List ℕ
   pub lines : List Line
+  -- those of the record; those of a line stand in it
+  pub extras : List Extra
   pub totals : StatedTotals
   pub signature : Signature
   pub integrity : ℕ
@@ -38,12 +43,19 @@ nothing = record {
   count = 0;
   check = 0;
   control = [];
+  references = [];
   loop_id = [];
   lines = [];
+  extras = [];
   totals = no_totals;
   signature = no_signature;
   integrity = 0;
 }
+
+-- behind an item
+abbrev pub in_line : Phase → Bool
+in_line phases.Items = true
+in_line _ = false
 
 -- ---- each field behind a segment of this kind: what it says, or what stood before
 
@@ -55,9 +67,24 @@ abbrev pub loop_id_after : Kind → List ℕ → List ℕ → List ℕ
 loop_id_after kinds.LoopStart new old = new
 loop_id_after _ new old = old
 
-abbrev pub lines_after : Kind → Line → List Line → List Line
-lines_after kinds.Item new old = old ++ new ∷ []
-lines_after _ new old = old
+abbrev pub references_after : Kind → List ℕ → List (List ℕ) → List (List ℕ)
+references_after kinds.Reference new old = old ++ new ∷ []
+references_after _ new old = old
+
+-- what stands behind an item belongs to the last line
+abbrev pub lines_after : Kind → Bool → Line → Extra → List Line → List Line
+lines_after kinds.Item in_line line extra old = old ++ line ∷ []
+lines_after kinds.Allowance true line extra old = with_extra extra old
+lines_after kinds.LineNote true line extra old = with_extra extra old
+lines_after kinds.Note true line extra old = with_extra extra old
+lines_after _ in_line line extra old = old
+
+-- and elsewhere to the record
+abbrev pub extras_after : Kind → Bool → Extra → List Extra → List Extra
+extras_after kinds.Allowance false extra old = old ++ extra ∷ []
+extras_after kinds.LineNote false extra old = old ++ extra ∷ []
+extras_after kinds.Note false extra old = old ++ extra ∷ []
+extras_after _ in_line extra old = old
 
 abbrev pub totals_after : Kind → StatedTotals → StatedTotals → StatedTotals
 totals_after kinds.Totals new old = new
@@ -78,11 +105,20 @@ kept m seg kind phase count check = record {
   count = count;
   check = check;
   control = control_after kind (control_in seg) m.control;
+  references = references_after kind (kept_text seg) m.references;
   loop_id = loop_id_after kind (loop_id_in seg) m.loop_id;
-  lines = lines_after kind (line_in seg) m.lines;
+  lines = lines_after kind (in_line m.phase) (line_in seg) (extra_in kind seg) m.lines;
+  extras = extras_after kind (in_line m.phase) (extra_in kind seg) m.extras;
   totals = totals_after kind (totals_in seg) m.totals;
   signature = signature_after kind (signature_in seg) m.signature;
   integrity = integrity_after kind (integrity_in seg) m.integrity;
+}
+
+-- the same, with one more extra behind the last line or at record level
+abbrev pub with_beside : Extra → SoFar → SoFar
+with_beside extra m = record m {
+  lines = if in_line m.phase then with_extra extra m.lines else m.lines;
+  extras = if in_line m.phase then m.extras else m.extras ++ extra ∷ [];
 }
 
 -- the same, moved on
@@ -92,8 +128,10 @@ moved m phase count check = record {
   count = count;
   check = check;
   control = m.control;
+  references = m.references;
   loop_id = m.loop_id;
   lines = m.lines;
+  extras = m.extras;
   totals = m.totals;
   signature = m.signature;
   integrity = m.integrity;

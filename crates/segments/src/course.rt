@@ -1,30 +1,39 @@
 //! The course of a set: what its segments say so far, one segment after another.
 
-ghost use Rattle.std.specs.Prelude.{◌≡◌, ℕ, ◌+◌, ◌<◌, ◌≤◌, List, [], ◌∷◌, length, IfOk, OnOk, None, Some, Err};
+ghost use Rattle.std.specs.Prelude.{◌≡◌, ℕ, ◌+◌, ◌<◌, ◌≤◌, List, [], ◌∷◌, ◌++◌, false, length, All, IfOk, OnOk, None, Some, Err};
 ghost use Rattle.block_check.specs.Crc16.{crc_from};
 ghost use Rattle.segments.specs.Tables.{line_in, integrity_in};
 ghost use Rattle.segments.specs.Kinds.{next_phase, is_done as done_at};
-ghost use Rattle.segments.specs.SoFar.{nothing, kept, moved};
+ghost use Rattle.segments.specs.SoFar.{in_line, nothing, kept, moved, with_beside};
+ghost use Rattle.segments.specs.Allowances.{HasSize, allowance_in};
+ghost use Rattle.segments.specs.Extras.{AreExtras, HasExtras, IsSized, allowances, kept_text};
+ghost use Rattle.segments.specs.Numbers.{HasRoom};
+ghost use Rattle.dsd_values.specs.declared.extra.Extra.TheVariants.{Allow, Note};
 ghost use Rattle.segments.specs.Views.{element_of};
 ghost use Rattle.segments.specs.Elements.{Reads};
 ghost use Rattle.segments.specs.Closing.{IsClosed};
-ghost use Rattle.segments.specs.Reasons.{Says, at_segment, admission, not_yet_reason, item_reason, loop_end_fault, integrity_reason, trailer_reason, course_reason};
+ghost use Rattle.segments.specs.Reasons.{Says, at_segment, admission, allowance_reason, beside, item_reason, loop_end_fault, integrity_reason, trailer_reason, course_reason};
 
 use crate::closing::{
     read_integrity, read_loop_start, read_signature, read_start, read_totals, read_trailer,
 };
-use crate::elements::{end_of_elements, word_between_at};
+use crate::allowance::read_allowance;
+use crate::elements::{end_of_elements, kept_at, word_between_at};
+use crate::extras::RecordExtras;
 use crate::item::read_item;
 use crate::item_fault::ItemFault;
 use crate::kind::{Form, Kind};
 use crate::numbered_lines::NumberedLines;
 use crate::phase::Phase;
-use crate::refusing::{at, built, refuse};
+use crate::refusing::{at, refuse};
 use crate::segment::Segment;
 use crate::set_fault::{SetFault, SetReason};
 use crate::stated::{Closed, StatedTotals};
 use block_check::Running;
-use dsd_values::{Cents, Check, Line, MOST_LINES, Memory, SET_BYTES, Signature, ValueFault, Word};
+use dsd_values::{
+    Allowance, Cents, Check, Extra, Kept, Line, MOST_ALLOWANCES, MOST_LINES, Memory, SET_BYTES, Signature,
+    ValueFault, Word,
+};
 use std::alloc::Global;
 use std::marker::Model;
 
@@ -36,8 +45,10 @@ pub struct Course {
     count: usize,
     check: Running,
     control: Word,
+    references: Vec<Kept>,
     loop_id: Word,
     lines: NumberedLines,
+    extras: RecordExtras,
     totals: StatedTotals,
     signature: Signature,
     integrity: Check,
@@ -48,7 +59,7 @@ impl Model for Course {
 
     ghost Value = { SoFar };
 
-    ghost view = { λ c. record { phase = c.phase; count = c.count; check = c.check; control = c.control; loop_id = c.loop_id; lines = c.lines; totals = c.totals; signature = c.signature; integrity = c.integrity } };
+    ghost view = { λ c. record { phase = c.phase; count = c.count; check = c.check; control = c.control; references = c.references.items; loop_id = c.loop_id; lines = c.lines; extras = c.extras; totals = c.totals; signature = c.signature; integrity = c.integrity } };
 }
 
 impl Course {
@@ -62,8 +73,10 @@ impl Course {
             count: 0,
             check: Running::new(),
             control: Word::empty(),
+            references: Vec::new(alloc),
             loop_id: Word::empty(),
             lines: NumberedLines::new(alloc)?,
+            extras: RecordExtras::new(alloc),
             totals: StatedTotals {
                 quantity: 0,
                 amount: Cents::new(0),
@@ -86,7 +99,6 @@ impl Course {
         let Some(phase) = self.phase.after(kind, form) else {
             return refuse(segment, SetReason::Order);
         };
-        built(kind, segment)?;
         if segment.end() > SET_BYTES {
             return refuse(segment, SetReason::Limit);
         }
@@ -112,14 +124,59 @@ impl Course {
             Kind::Signature => self.signature = at(segment, read_signature(segment))?,
             Kind::Integrity => self.integrity = integrity(segment, self.check.value())?,
             Kind::Trailer => trailer(segment, &self.control, self.count + 1)?,
-            Kind::Head
-            | Kind::Reference
-            | Kind::Allowance
-            | Kind::LineNote
-            | Kind::Note
-            | Kind::Other => {}
+            Kind::Reference => {
+                let text = at(segment, kept_at(self.alloc, segment))?;
+                push_text(&mut self.references, text)?;
+            }
+            Kind::Allowance => return self.keep_allowance(segment),
+            Kind::LineNote | Kind::Note => return self.keep_note(segment),
+            Kind::Head | Kind::Other => {}
         }
         Ok(())
+    }
+
+    /// Keeps an allowance, behind the last line or at record level.
+    fn keep_allowance(&mut self, segment: &Segment<'_>) -> Result<(), SetFault>
+        ensures { Says result segment.now.start (allowance_reason (in_line self.old.phase) (allowances (beside self.old)) segment.now)
+            (λ _. self.new ≡ with_beside (Allow (allowance_in segment.now)) self.old) }
+    {
+        let beside = self.allowances_beside();
+        let allowance = allowance(self.alloc, segment, self.phase.in_line(), beside)?;
+        self.push_extra(Extra::Allow(allowance))?;
+        Ok(())
+    }
+
+    /// Keeps a note, behind the last line or at record level.
+    fn keep_note(&mut self, segment: &Segment<'_>) -> Result<(), SetFault>
+        ensures { Says result segment.now.start None (λ _. self.new ≡ with_beside (Note (kept_text segment.now)) self.old) }
+    {
+        let text = at(segment, kept_at(self.alloc, segment))?;
+        self.push_extra(Extra::Note(text))?;
+        Ok(())
+    }
+
+    /// How many allowances one more would stand beside.
+    fn allowances_beside(&self) -> usize
+        ensures { result ≡ allowances (beside self.now) }
+    {
+        if self.phase.in_line() {
+            self.lines.last_allowances()
+        } else {
+            self.extras.allowances()
+        }
+    }
+
+    /// Adds an extra behind the last line or at record level.
+    fn push_extra(&mut self, extra: Extra) -> Result<(), Memory>
+        requires sized { IsSized (in_line self.old.phase) extra }
+        requires room { HasRoom extra (beside self.old) }
+        ensures { OnOk result (self.new ≡ with_beside extra self.old) }
+    {
+        if self.phase.in_line() {
+            self.lines.push_extra(extra)
+        } else {
+            self.extras.push(extra)
+        }
     }
 
     /// Goes on behind the segment.
@@ -151,8 +208,17 @@ impl Course {
     pub fn lines(&self) -> &[Line]
         ensures value { result.now ≡ self.now.lines }
         ensures few { length result.now ≤ MOST_LINES }
+        ensures behind { All HasExtras result.now }
     {
         self.lines.as_slice()
+    }
+
+    /// What stands at record level so far.
+    pub fn extras(&self) -> &[Extra]
+        ensures value { result.now ≡ self.now.extras }
+        ensures right { AreExtras false result.now }
+    {
+        self.extras.as_slice()
     }
 
     /// What the set stated.
@@ -161,12 +227,21 @@ impl Course {
     {
         Closed {
             control: self.control,
+            references: self.references,
             lines: self.lines.into_lines(),
+            extras: self.extras.into_extras(),
             totals: self.totals,
             signature: self.signature,
             check: self.integrity,
         }
     }
+}
+
+fn push_text(texts: &mut Vec<Kept>, text: Kept) -> Result<(), Memory>
+    ensures { OnOk result (texts.new.items ≡ texts.old.items ++ text ∷ []) }
+{
+    texts.push(text)?;
+    Ok(())
 }
 
 fn item(alloc: Global, segment: &Segment<'_>, lines: &NumberedLines) -> Result<Line, SetFault>
@@ -181,6 +256,23 @@ fn item(alloc: Global, segment: &Segment<'_>, lines: &NumberedLines) -> Result<L
         return refuse(segment, SetReason::Twice(line.dsd));
     }
     Ok(line)
+}
+
+/// The allowance of a segment, beside so many others.
+fn allowance(
+    alloc: Global,
+    segment: &Segment<'_>,
+    in_line: bool,
+    beside: usize,
+) -> Result<Allowance, SetFault>
+    ensures exact { Says result segment.now.start (allowance_reason in_line beside segment.now) (λ allowance. allowance ≡ allowance_in segment.now) }
+    ensures size { OnOk result (HasSize in_line (allowance_in segment.now)) }
+    ensures room { OnOk result (beside < MOST_ALLOWANCES) }
+{
+    if beside >= MOST_ALLOWANCES {
+        return refuse(segment, SetReason::Limit);
+    }
+    at(segment, read_allowance(alloc, segment, in_line))
 }
 
 fn loop_end(segment: &Segment<'_>, loop_id: &Word) -> Result<(), ItemFault>

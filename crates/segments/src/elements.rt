@@ -4,6 +4,7 @@ ghost use Rattle.std.specs.Prelude.{◌≡◌, ◌+◌, ◌<◌, ◌≤◌, ℕ,
 ghost use Rattle.std.specs.List.{join_with_byte};
 ghost use Rattle.dsd_values.specs.Answers.{UnlessMemory};
 ghost use Rattle.dsd_values.specs.Reading.{plain_number_of, dsd_of, quantity_of, total_quantity_of, cents_of, cost_of, check_of, word_of, filled_word_of, word_between};
+ghost use Rattle.segments.specs.Extras.{kept_text};
 ghost use Rattle.segments.specs.Views.{element_of};
 ghost use Rattle.dsd_values.specs.declared.fault.ValueFault.TheVariants.{TooLong};
 ghost use Rattle.segments.specs.Elements.{Reads, at_element, said, optional, no_more, filled_from, tail_from, without_end_stars as trimmed};
@@ -150,6 +151,13 @@ pub fn end_of_elements(segment: &Segment<'_>, last: usize) -> Result<(), ItemFau
         }
     }
     Ok(())
+}
+
+/// The segment as it is kept: its id and elements, joined by `*`, without empty trailing ones.
+pub fn kept_at(alloc: Global, segment: &Segment<'_>) -> Result<Kept, ItemFault>
+    ensures { UnlessMemory ItemFault.Memory result (Ok (kept_text segment.now)) }
+{
+    tail_at(alloc, segment, 0)
 }
 
 /// The elements from this number on, joined by `*`, without empty trailing ones.

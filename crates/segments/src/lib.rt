@@ -5,6 +5,7 @@ mod allowance;
 mod closing;
 mod course;
 mod elements;
+mod extras;
 mod item;
 mod item_fault;
 mod kind;

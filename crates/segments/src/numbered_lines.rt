@@ -1,9 +1,13 @@
 //! The lines of a set that is being read, and which DSD numbers they have.
 
-ghost use Rattle.std.specs.Prelude.{◌≡◌, ◌+◌, ◌<◌, ◌≤◌, [], ◌∷◌, ◌++◌, length, IfOk, OnOk, OnErr};
-ghost use Rattle.segments.specs.Reasons.{has_line};
+ghost use Rattle.std.specs.Prelude.{◌≡◌, ◌+◌, ◌<◌, ◌≤◌, [], ◌∷◌, ◌++◌, true, length, All, IfOk, OnOk, OnErr};
+ghost use Rattle.dsd_values.specs.Behind.{with_extra};
+ghost use Rattle.segments.specs.Extras.{HasExtras, IsSized, allowances as count_of};
+ghost use Rattle.segments.specs.Numbers.{HasRoom};
+ghost use Rattle.segments.specs.Reasons.{has_line, last_extras};
 
-use dsd_values::{DsdNumber, Line, Lines, MOST_LINES, Memory};
+use crate::extras::allowances;
+use dsd_values::{DsdNumber, Extra, Line, Lines, MOST_LINES, Memory};
 use std::alloc::Global;
 use std::marker::Model;
 
@@ -54,8 +58,10 @@ impl NumberedLines {
         self.stands[usize::from(dsd.get())]
     }
 
+    /// Adds a line behind which nothing stands yet.
     pub fn push(&mut self, line: Line) -> Result<(), Memory>
-        requires { length self.old < MOST_LINES }
+        requires room { length self.old < MOST_LINES }
+        requires bare { line.extras ≡ [] }
         ensures ok { OnOk result (self.new ≡ self.old ++ line ∷ []) }
         ensures err { OnErr result (self.new ≡ self.old) }
     {
@@ -65,16 +71,37 @@ impl NumberedLines {
         Ok(())
     }
 
+    /// How many allowances stand behind the last line.
+    #[tactic(auto, using(crate::proofs::Behind::last_extras_last))]
+    pub fn last_allowances(&self) -> usize
+        ensures { result ≡ count_of (last_extras self.now) }
+    {
+        match self.lines.as_slice().split_last() {
+            Some((line, _)) => allowances(line.extras.as_slice()),
+            None => 0,
+        }
+    }
+
+    /// Adds an extra behind the last line.
+    pub fn push_extra(&mut self, extra: Extra) -> Result<(), Memory>
+        requires sized { IsSized true extra }
+        requires room { HasRoom extra (last_extras self.old) }
+        ensures ok { OnOk result (self.new ≡ with_extra extra self.old) }
+        ensures err { OnErr result (self.new ≡ self.old) }
+    {
+        self.lines.push_extra(extra)
+    }
+
     pub fn as_slice(&self) -> &[Line]
         ensures value { result.now ≡ self.now }
         ensures few { length result.now ≤ MOST_LINES }
+        ensures behind { All HasExtras result.now }
     {
         self.lines.as_slice()
     }
 
     pub fn into_lines(self) -> Lines
-        ensures value { result ≡ self }
-        ensures few { length result ≤ MOST_LINES }
+        ensures { result ≡ self }
     {
         self.lines
     }

@@ -2,6 +2,7 @@
 
 ghost use Rattle.std.specs.Prelude.{◌≡◌};
 ghost use Rattle.segments.specs.Kinds.{next_phase, is_done as done_at};
+ghost use Rattle.segments.specs.SoFar.{in_line as behind_item};
 
 use crate::kind::{Form, Kind};
 
@@ -65,5 +66,12 @@ impl Phase {
         ensures { result ≡ done_at self }
     {
         matches!(self, Phase::Done)
+    }
+
+    /// Whether an item was read, and what belongs to it may come.
+    pub fn in_line(self) -> bool
+        ensures { result ≡ behind_item self }
+    {
+        matches!(self, Phase::Items)
     }
 }

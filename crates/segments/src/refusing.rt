@@ -2,10 +2,9 @@
 
 ghost use Rattle.std.specs.Prelude.{◌≡◌, Err};
 ghost use Rattle.segments.specs.Views.{element_of};
-ghost use Rattle.segments.specs.Reasons.{Says, at_segment, not_yet_reason};
+ghost use Rattle.segments.specs.Reasons.{at_segment};
 
 use crate::item_fault::ItemFault;
-use crate::kind::Kind;
 use crate::segment::Segment;
 use crate::set_fault::{SetFault, SetReason};
 use dsd_values::read_word;
@@ -30,16 +29,6 @@ pub fn at<T>(segment: &Segment<'_>, answer: Result<T, ItemFault>) -> Result<T, S
             refuse(segment, SetReason::Value { element, fault })
         }
         Err(ItemFault::Memory) => Err(SetFault::Memory),
-    }
-}
-
-/// Refuses what only later work reads.
-pub(crate) fn built(kind: Kind, segment: &Segment<'_>) -> Result<(), SetFault>
-    ensures { Says result segment.now.start (not_yet_reason kind segment.now) (λ _. Unit {0}) }
-{
-    match kind {
-        Kind::Reference | Kind::Allowance | Kind::LineNote | Kind::Note => not_yet(segment),
-        _ => Ok(()),
     }
 }
 

@@ -13,9 +13,10 @@ pub enum SetReason {
     Segment(SegmentFault),
     /// The segment may not stand there, the text ends before SE, or bytes follow SE.
     Order,
-    /// A segment with this id may stand there, and only later work reads it.
+    /// The text begins as a set that only later work reads, with a segment of this id.
     NotYet(Word),
-    /// One line more than a delivery may have, or the segment ends past the most bytes of a set.
+    /// One line more than a delivery may have, one allowance more than a line or a record may have, or the segment ends
+    /// past the most bytes of a set.
     Limit,
     /// The first element that is refused, by its number from 1.
     Value { element: usize, fault: ValueFault },

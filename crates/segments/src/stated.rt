@@ -1,6 +1,6 @@
 //! What the segments of a set stated.
 
-use dsd_values::{Cents, Check, Lines, Signature, Word};
+use dsd_values::{Cents, Check, Extras, Kept, Lines, Signature, Word};
 
 /// The totals that a set states, right or not.
 #[derive(Clone, Copy, Debug)]
@@ -16,7 +16,11 @@ pub struct StatedTotals {
 pub struct Closed {
     /// The control number, as it stands.
     pub control: Word,
+    /// The references behind the head, each as it is kept.
+    pub references: Vec<Kept>,
     pub lines: Lines,
+    /// What stands at record level.
+    pub extras: Extras,
     pub totals: StatedTotals,
     pub signature: Signature,
     /// The integrity value.
