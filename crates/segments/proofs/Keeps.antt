@@ -107,7 +107,8 @@ keeps kinds.Item m seg phase count check e (apart, most, behind, right) =
     let room = both_none _ _ e in
     let new = both_none _ _ room.1 in
     let under : length m.lines < MOST_LINES = less MOST_LINES (length m.lines) (not_when _ _ room.0) in
-    (apart_push m.lines (line_in seg) apart (not_when _ _ new.1), omega (arith, length-append m.lines (line_in seg ∷ []), under), behind_push m.lines (line_in seg) behind refl, right)
+    let long : length (m.lines ++ line_in seg ∷ []) ≡ length m.lines + 1 = length-append m.lines (line_in seg ∷ []) in
+    (apart_push m.lines (line_in seg) apart (not_when _ _ new.1), omega (arith, long, under), behind_push m.lines (line_in seg) behind refl, right)
 keeps kinds.Allowance m seg phase count check e s = allowance_sound (in_line m.phase) (line_in seg) seg m.lines m.extras e s
 keeps kinds.LineNote m seg phase count check e s = line_note_sound (in_line m.phase) (line_in seg) (kept_text seg) m.lines m.extras s
 keeps kinds.Note m seg phase count check e s = note_sound (in_line m.phase) (line_in seg) (kept_text seg) m.lines m.extras s

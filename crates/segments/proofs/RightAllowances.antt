@@ -1,5 +1,5 @@
 -- A G72 whose elements are right says an allowance that has a size where it changes a price, and one that says so is right.
-use Rattle.std.proofs.Common.{◌≡◌, ℕ, Bool, true, false, not, ◌&&◌, ◌==◌, List, [], length, Option, Some, None, is_some, Result, Ok, Err, IfOk, inl, inr, refl, sym, ap, ◌∙◌, subst}
+use Rattle.std.proofs.Common.{◌≡◌, ℕ, Bool, true, false, not, ◌&&◌, ◌==◌, List, [], length, Option, Some, None, is_some, Result, Ok, Err, IfOk, OnOk, inl, inr, refl, sym, ap, ◌∙◌, subst}
 use Rattle.std.proofs.lemmas.Bool.{cases_Bool}
 use Rattle.dsd_values.proofs.Laws.{filled_word_of_spelled}
 use Rattle.dsd_values.specs.Answers.{UnlessMemory}
@@ -8,6 +8,8 @@ use Rattle.dsd_values.specs.declared.allowance.Allowance.{Allowance}
 use Rattle.dsd_values.specs.declared.fault.ValueFault.{ValueFault}
 use Rattle.segments.specs.declared.item_fault.ItemFault.{ItemFault}
 use Rattle.segments.specs.declared.item_fault.ItemFault.TheVariants as errors
+use Rattle.segments.specs.declared.set_fault.SetFault.{SetFault}
+use Rattle.segments.specs.Reasons.{at_segment}
 use Rattle.segments.specs.Views.{Seg, element_of}
 use Rattle.segments.specs.Elements.{Reads, some_of, optional}
 use Rattle.segments.specs.Allowances.{counts, has_size, HasSize, IsAllowance, is_left_out, lacks_quantity, lacks_size, missing, allowance_fault, allowance_in}

@@ -1,7 +1,9 @@
 -- Texts without the stars at their end, and the table of the lines' numbers.
-use Rattle.std.proofs.Common.{◌≡◌, ◌≢◌, ℕ, ◌+◌, ◌-◌, ◌<◌, ◌≤◌, ◌==◌, Bool, true, false, List, [], ◌∷◌, ◌++◌, length, get_or, take, drop, refl, sym, ap, ◌∙◌, arith, replicate, Option, Some, None, Result, Ok, Err, OnOk, OnErr, subst}
+use Rattle.std.proofs.Common.{◌≡◌, ◌≢◌, ℕ, ◌+◌, ◌-◌, ◌<◌, ◌≤◌, ◌==◌, ◌||◌, Bool, true, false, List, [], ◌∷◌, ◌++◌, length, get_or, set, inl, inr, length-append, take, drop, refl, sym, ap, ◌∙◌, arith, replicate, Option, Some, None, Result, Ok, Err, OnOk, OnErr, subst}
 use Rattle.std.proofs.lemmas.Bool.Decides.{nat_tests}
-use Rattle.std.proofs.lemmas.List.{get_or-replicate, length-replicate}
+use Rattle.std.proofs.lemmas.Bool.{cases_eq}
+use Rattle.std.proofs.lemmas.List.{get_or-replicate, get_or-set_same, get_or-set_other, length-replicate, length-set}
+use Rattle.std.proofs.lemmas.List.Folds.{list_any-append}
 use Rattle.std.proofs.lemmas.List.Elements.{All-nil}
 use Rattle.dsd_values.specs.Behind.{with_extra}
 use Rattle.dsd_values.specs.declared.extra.Extra.{Extra}
@@ -10,7 +12,8 @@ use Rattle.segments.specs.Elements.{without_end_stars, or_star}
 use Rattle.segments.specs.Extras.{HasExtras, IsSized}
 use Rattle.segments.specs.Reasons.{has_line, last_extras}
 use Rattle.segments.specs.Numbers.{HasRoom, IsTable}
-use Rattle.segments.proofs.Behind.{behind_extra, has_extra, length_extra}
+use Rattle.dsd_values.specs.declared.limits.TheConstants.{MOST_LINES}
+use Rattle.segments.proofs.Behind.{behind_extra, behind_push, has_extra, length_extra}
 
 pub trim_star : (front : List ℕ) → without_end_stars (front ++ 42 ∷ []) ≡ without_end_stars front
 trim_star [] = refl
@@ -51,3 +54,42 @@ pub table_either : {X F : Type 0} (answer : Result X F) (extra : Extra) (lines n
     → OnOk answer (new ≡ with_extra extra lines) → OnErr answer (new ≡ lines) → IsTable new stands
 table_either (Ok x) extra lines new stands table sized room ok err = table_extra extra lines new stands table sized room ok
 table_either (Err f) extra lines new stands table sized room ok err = subst (λ (u : List Line). IsTable u stands) (sym err) table
+
+-- ---- one more line
+
+with_itself : (b : Bool) → (b || (true || false)) ≡ true
+with_itself true = refl
+with_itself false = refl
+
+with_other : (b : Bool) → (b || (false || false)) ≡ b
+with_other true = refl
+with_other false = refl
+
+has_last : (dsd : ℕ) (lines : List Line) (line : Line) → has_line dsd (lines ++ line ∷ []) ≡ (has_line dsd lines || ((line.dsd == dsd) || false))
+has_last dsd lines line = list_any-append (λ (other : Line). other.dsd == dsd) lines (line ∷ [])
+
+pub table_push : (lines new : List Line) (line : Line) (stands : List Bool) (n : ℕ) → IsTable lines stands → length lines < MOST_LINES → line.extras ≡ [] → n ≡ line.dsd → n < 10000 → new ≡ lines ++ line ∷ []
+    → IsTable new (set stands n true)
+table_push lines new line stands n table room bare is low same = subst (λ (u : List Line). IsTable u (set stands n true)) (sym same) (record {
+  few = omega (arith, length-append lines (line ∷ []), room);
+  behind = behind_push lines line table.behind bare;
+  size = length-set stands n true ∙ table.size;
+  tells = tells;
+})
+  where
+    inside : n < length stands
+    inside = omega (arith, table.size, low)
+
+    tells : (dsd : ℕ) → dsd < 10000 → get_or (set stands n true) dsd false ≡ has_line dsd (lines ++ line ∷ [])
+    tells dsd h = elim (cases_eq line.dsd dsd) [
+      | inl here ↦
+        let test : (line.dsd == dsd) ≡ true = grind (arith, nat_tests) in
+        let at : n ≡ dsd = is ∙ here in
+        ap (λ (k : ℕ). get_or (set stands n true) k false) (sym at) ∙ get_or-set_same stands n true false inside
+        ∙ sym (has_last dsd lines line ∙ ap (λ (b : Bool). has_line dsd lines || (b || false)) test ∙ with_itself (has_line dsd lines))
+      | inr other ↦
+        let test : (line.dsd == dsd) ≡ false = grind (arith, nat_tests) in
+        let apart : dsd ≢ n = λ e. other (sym is ∙ sym e) in
+        get_or-set_other stands n dsd true false apart ∙ table.tells dsd h
+        ∙ sym (has_last dsd lines line ∙ ap (λ (b : Bool). has_line dsd lines || (b || false)) test ∙ with_other (has_line dsd lines))
+    ]

@@ -1,11 +1,7 @@
 use Rattle.std.proofs.Common.{rules, ◌≡◌, subst, sym}
-use Rattle.segments.proofs.Behind.{behind_push}
+use Rattle.segments.proofs.Trimmed.{table_push}
 use Rattle.segments.proofs.numbered_lines.NumberedLines.push.Goals as goal
 
 pub invariant_of-self-2 : goal.invariant_of-self-2
-invariant_of-self-2 c = record {
-  few = search rules;
-  behind = search (rules, behind_push);
-  size = search rules;
-  tells = search rules;
-}
+invariant_of-self-2 c =
+    table_push c.self.inside.lines c.push.new.self c.args.line c.self.inside.stands.items c.from-number.result c.self.invariant (search rules) c.requires.bare (search rules) (search rules) (search rules)
