@@ -1,6 +1,5 @@
 -- What a base record is: the value that a set 894 spells.
 use Rattle.std.specs.Prelude.{ℕ, List, Option}
-use Rattle.std.specs.List.{sum_by}
 use Rattle.dsd_values.specs.Calendar.{Date}
 use Rattle.dsd_values.specs.declared.extra.Extra.{Extra}
 use Rattle.dsd_values.specs.declared.flag.Flag.{Flag}
@@ -21,7 +20,3 @@ pub record BaseRecord : Type 0 where
   pub extras : List Extra
   pub deposit : Option ℕ
   pub signature : Signature
-
--- the sum of the quantities of these lines
-abbrev pub quantities : List Line → ℕ
-quantities lines = sum_by (λ line. line.quantity) lines

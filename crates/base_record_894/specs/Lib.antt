@@ -1,7 +1,7 @@
 pub mod BaseRecord
 pub mod HeadTable
 pub mod Grammar
-pub mod PlainText
+pub mod RecordText
 pub mod Said
 pub mod FirstRefusal
 pub mod ReadParts

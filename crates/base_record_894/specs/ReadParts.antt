@@ -26,7 +26,7 @@ pub record IsReadFrom (m : Said) (parts : Parts) : Type 0 where
   pub head : m.head ≡ Some parts.head
   pub closed : IsClosed m.course parts.closed
 
--- the record of what was read: a plain one has no references and nothing at its level
+-- the record of what was read
 abbrev pub record_of : Parts → BaseRecord
 record_of parts = record {
   flag = parts.head.flag;
@@ -37,9 +37,9 @@ record_of parts = record {
   supplier_duns = parts.head.supplier_duns;
   supplier_place = parts.head.supplier_place;
   tail = parts.head.tail;
-  references = [];
+  references = parts.closed.references.items;
   lines = parts.closed.lines;
-  extras = [];
+  extras = parts.closed.extras;
   deposit = parts.closed.totals.deposit;
   signature = parts.closed.signature;
 }

@@ -1,6 +1,10 @@
 -- What the segments of a base record say so far, and why the next one is refused.
-use Rattle.std.specs.Prelude.{ℕ, ◌+◌, Bool, true, false, not, ◌&&◌, ◌==◌, pos, List, length, Option, Some, None}
+use Rattle.std.specs.Prelude.{ℕ, ℤ, ◌+◌, Bool, true, false, not, ◌&&◌, ◌==◌, pos, List, length, Option, Some, None}
+use Rattle.std.specs.Ordering.{int_eq}
 use Rattle.block_check.specs.Crc16.{crc_from}
+use Rattle.dsd_pricing.specs.Pricing.{priced, quantities}
+use Rattle.dsd_values.specs.declared.extra.Extra.{Extra}
+use Rattle.dsd_values.specs.declared.line.Line.{Line}
 use Rattle.segments.specs.Views.{Seg, element_of}
 use Rattle.segments.specs.Elements.{◌or_else◌}
 use Rattle.segments.specs.Tables.{totals_fault, totals_in}
@@ -13,9 +17,9 @@ use Rattle.segments.specs.declared.kind.Kind.{Kind}
 use Rattle.segments.specs.declared.kind.Kind.TheVariants as kinds
 use Rattle.segments.specs.declared.phase.Phase.{Phase}
 use Rattle.segments.specs.declared.phase.Phase.TheVariants as phases
+use Rattle.segments.specs.declared.stated.StatedTotals.{StatedTotals}
 use Rattle.segments.specs.declared.set_fault.SetReason.{SetReason}
 use Rattle.segments.specs.declared.set_fault.SetReason.TheVariants as reasons
-use Rattle.base_record_894.specs.BaseRecord.{quantities}
 use Rattle.base_record_894.specs.HeadTable.{head_fault, head_in}
 use Rattle.base_record_894.specs.declared.head.Head.{Head}
 
@@ -36,9 +40,17 @@ answer_reason _ _ seg = None
 abbrev pub quantity_reason : ℕ → ℕ → Option SetReason
 quantity_reason said computed = when (not (said == computed)) (reasons.Totals said (pos computed))
 
+-- the stated amount is what the rows come to, which may be below 0 or above any that can be stated
+abbrev pub amount_reason : ℕ → ℤ → Option SetReason
+amount_reason said computed = when (not (int_eq (pos said) computed)) (reasons.Totals said computed)
+
+-- the totals are those of the rows
+abbrev pub rows_reason : StatedTotals → List Line → List Extra → Option SetReason
+rows_reason said lines extras = quantity_reason said.quantity (quantities lines) or_else amount_reason said.amount (priced lines extras)
+
 abbrev pub own_reason : Said → Seg → Kind → Option SetReason
 own_reason m seg kinds.Head = as_value (head_fault seg)
-own_reason m seg kinds.Totals = as_value (totals_fault seg) or_else quantity_reason (totals_in seg).quantity (quantities m.course.lines)
+own_reason m seg kinds.Totals = as_value (totals_fault seg) or_else rows_reason (totals_in seg) m.course.lines m.course.extras
 own_reason m seg kind = course_reason m.course seg kind
 
 -- The first reason against a segment, behind what those before it say: none where it may stand there and is right.

@@ -1,21 +1,21 @@
 //! The base record of a delivery.
 
-ghost use Rattle.std.specs.Prelude.{◌≡◌, ◌≤◌, length};
-ghost use Rattle.base_record_894.specs.BaseRecord.{quantities as sum_of_quantities};
+ghost use Rattle.std.specs.Prelude.{◌≡◌, IfOk, pos};
+ghost use Rattle.dsd_pricing.specs.Pricing.{priced, quantities as sum_of_quantities};
 ghost use Rattle.base_record_894.specs.ReadParts.{record_of, seal_of};
-ghost use Rattle.base_record_894.specs.PlainText.{IsSpelled};
+ghost use Rattle.base_record_894.specs.RecordText.{IsBase};
 
 use crate::head::Head;
 use crate::notes::Notes;
 use crate::parts::Parts;
-use dsd_values::{
-    Cents, Day, DeliveryNumber, Extras, Flag, Kept, Line, Lines, MOST_LINES, Signature, Word,
-};
+use crate::rows::quantities;
+use dsd_pricing::amount_of;
+use dsd_values::{Cents, Day, DeliveryNumber, Extras, Flag, Kept, Lines, Memory, Signature, Word};
 use segments::{Closed, Seal};
 use std::alloc::Global;
 use std::marker::Model;
 
-/// What a supplier states of a delivery: a value that some text of a set 894 spells.
+/// What a supplier states of a delivery: a value that some text of a set 894 spells, however long its segments are.
 #[derive(Debug, Drop)]
 pub struct Base {
     head: Head,
@@ -28,39 +28,40 @@ pub struct Base {
 
 impl Model for Base {
     ghost use Rattle.base_record_894.specs.BaseRecord.{BaseRecord};
-    ghost use Rattle.base_record_894.specs.PlainText.{IsSpelled};
+    ghost use Rattle.base_record_894.specs.RecordText.{IsBase};
 
     ghost Value = { BaseRecord };
 
     ghost view = { λ b. record { flag = b.head.flag; number = b.head.number; day = b.head.day; receiver_duns = b.head.receiver_duns; receiver_place = b.head.receiver_place; supplier_duns = b.head.supplier_duns; supplier_place = b.head.supplier_place; tail = b.head.tail; references = b.references; lines = b.lines; extras = b.extras; deposit = b.deposit; signature = b.signature } };
 
-    ghost invariant = { λ b. IsSpelled (record { flag = b.head.flag; number = b.head.number; day = b.head.day; receiver_duns = b.head.receiver_duns; receiver_place = b.head.receiver_place; supplier_duns = b.head.supplier_duns; supplier_place = b.head.supplier_place; tail = b.head.tail; references = b.references; lines = b.lines; extras = b.extras; deposit = b.deposit; signature = b.signature }) };
+    ghost invariant = { λ b. IsBase (record { flag = b.head.flag; number = b.head.number; day = b.head.day; receiver_duns = b.head.receiver_duns; receiver_place = b.head.receiver_place; supplier_duns = b.head.supplier_duns; supplier_place = b.head.supplier_place; tail = b.head.tail; references = b.references; lines = b.lines; extras = b.extras; deposit = b.deposit; signature = b.signature }) };
 }
 
-/// The record and the seal of what was read, and the amount as it is said.
-pub fn seal_up(alloc: Global, parts: Parts) -> (Base, Seal, Cents)
-    requires { IsSpelled (record_of parts) }
+/// The record and the seal of what was read.
+pub fn seal_up(parts: Parts) -> (Base, Seal)
+    requires { IsBase (record_of parts) }
     ensures base { result.0 ≡ record_of parts }
     ensures seal { result.1 ≡ seal_of parts }
-    ensures amount { result.2 ≡ parts.closed.totals.amount }
 {
     let Parts { head, closed } = parts;
     let Closed {
         control,
+        references,
         lines,
+        extras,
         totals,
         signature,
         check,
     } = closed;
     let base = Base {
         head,
-        references: Notes::new(alloc),
+        references: Notes::from_texts(references),
         lines,
-        extras: Extras::new(alloc),
+        extras,
         deposit: totals.deposit,
         signature,
     };
-    (base, Seal { control, check }, totals.amount)
+    (base, Seal { control, check })
 }
 
 impl Base {
@@ -132,6 +133,16 @@ impl Base {
         quantities(self.lines.as_slice())
     }
 
+    /// What the rows come to.
+    pub fn amount(&self) -> Cents
+        ensures { pos result ≡ priced self.now.lines self.now.extras }
+    {
+        match amount_of(self.lines.as_slice(), self.extras.as_slice()) {
+            Ok(totals) => totals.amount,
+            Err(_) => unreachable!(),
+        }
+    }
+
     pub fn lines(&self) -> &Lines
         ensures { result.now ≡ self.now.lines }
     {
@@ -157,16 +168,18 @@ impl Base {
     {
         &self.signature
     }
-}
 
-/// The sum of the quantities of these lines.
-pub fn quantities(lines: &[Line]) -> u32
-    requires { length lines.now ≤ MOST_LINES }
-    ensures { result ≡ sum_of_quantities lines.now }
-{
-    let mut sum = 0;
-    for line in lines {
-        sum += line.quantity.get();
+    /// An equal record.
+    pub fn try_copy(&self, alloc: Global) -> Result<Base, Memory>
+        ensures { IfOk result (λ copy. copy ≡ self.now) }
+    {
+        Ok(Base {
+            head: self.head.try_copy(alloc)?,
+            references: self.references.try_copy(alloc)?,
+            lines: self.lines.try_copy(alloc)?,
+            extras: self.extras.try_copy(alloc)?,
+            deposit: self.deposit,
+            signature: self.signature.copy(),
+        })
     }
-    sum
 }

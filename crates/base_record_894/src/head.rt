@@ -1,6 +1,6 @@
 //! G82, the head of a base record.
 
-ghost use Rattle.std.specs.Prelude.{◌≡◌, []};
+ghost use Rattle.std.specs.Prelude.{◌≡◌, [], IfOk};
 ghost use Rattle.segments.specs.Views.{element_of};
 ghost use Rattle.segments.specs.Elements.{Reads, at_element, said};
 ghost use Rattle.dsd_values.specs.Reading.{flag_of, delivery_number_of};
@@ -9,7 +9,7 @@ ghost use Rattle.base_record_894.specs.HeadTable.{head_fault, head_in, no_day};
 ghost use Rattle.dsd_values.specs.declared.flag.Flag.TheVariants as flags;
 
 use dsd_values::{
-    Day, DeliveryNumber, Flag, Kept, Word, read_day, read_delivery_number, read_flag,
+    Day, DeliveryNumber, Flag, Kept, Memory, Word, read_day, read_delivery_number, read_flag,
 };
 use segments::{ItemFault, Segment, in_element, tail_at, word_at};
 use std::alloc::Global;
@@ -25,6 +25,24 @@ pub struct Head {
     pub supplier_place: Word,
     pub day: Day,
     pub tail: Kept,
+}
+
+impl Head {
+    /// An equal head.
+    pub fn try_copy(&self, alloc: Global) -> Result<Head, Memory>
+        ensures { IfOk result (λ copy. copy ≡ self.now) }
+    {
+        Ok(Head {
+            flag: self.flag,
+            number: self.number.copy(),
+            receiver_duns: self.receiver_duns.copy(),
+            receiver_place: self.receiver_place.copy(),
+            supplier_duns: self.supplier_duns.copy(),
+            supplier_place: self.supplier_place.copy(),
+            day: self.day,
+            tail: self.tail.try_copy(alloc)?,
+        })
+    }
 }
 
 /// The seven elements of a G82, and the tail behind them.

@@ -6,12 +6,13 @@ mod head;
 pub mod laws;
 mod notes;
 mod parts;
-mod plain;
 mod reader;
+mod reading;
+mod rows;
 
 pub use base::Base;
 pub use notes::Notes;
-pub use plain::{read_894, read_plain_894};
+pub use reading::read_894;
 
 #[cfg(test)]
 mod tests;

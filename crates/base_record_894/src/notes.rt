@@ -29,6 +29,13 @@ impl Notes {
         }
     }
 
+    /// The notes of these texts.
+    pub(crate) fn from_texts(items: Vec<Kept>) -> Notes
+        ensures { result ≡ items.items }
+    {
+        Notes { items }
+    }
+
     pub fn push(&mut self, item: Kept) -> Result<(), Memory>
         ensures ok { OnOk result (self.new ≡ self.old ++ item ∷ []) }
         ensures err { OnErr result (self.new ≡ self.old) }

@@ -3,16 +3,16 @@
 ghost use Rattle.std.specs.Prelude.{◌≡◌, ℕ, ◌+◌, ◌<◌, ◌≤◌, List, [], ◌∷◌, length, IfOk, OnOk, None, Some};
 ghost use Rattle.segments.specs.Reasons.{Says};
 ghost use Rattle.segments.specs.Refusal.{Answers, ended_at};
-ghost use Rattle.base_record_894.specs.Said.{nothing, answer_reason, quantity_reason, own_reason, reason_of, kept_by, after, is_whole};
+ghost use Rattle.base_record_894.specs.Said.{nothing, answer_reason, own_reason, reason_of, kept_by, after, is_whole};
 ghost use Rattle.base_record_894.specs.ReadParts.{IsReadFrom};
 ghost use Rattle.segments.specs.declared.kind.Kind.TheVariants as kinds;
 
-use crate::base::quantities;
 use crate::head::{Head, read_head};
 use crate::parts::Parts;
+use crate::rows::compare_totals;
 use dsd_values::{Memory, SET_BYTES};
 use segments::{
-    Course, Form, Kind, Phase, Segment, SetFault, SetReason, at, is_start_of, not_yet, refuse,
+    Course, Form, Kind, Phase, Segment, SetFault, SetReason, at, is_start_of, not_yet,
 };
 use std::alloc::Global;
 use std::marker::Model;
@@ -85,26 +85,16 @@ impl Reader {
         Ok(())
     }
 
+    /// Keeps the totals where they are those of the rows.
     #[tactic(auto, unfolding(crate::specs::Said::kept_by, segments::specs::SoFar::kept))]
-    /// Keeps the totals where they are those of the lines.
     fn keep_totals(&mut self, segment: &Segment<'_>) -> Result<(), SetFault>
         requires { self.old.course.count ≤ SET_BYTES }
         ensures { Says result segment.now.start (own_reason self.old segment.now kinds.Totals)
             (λ _. self.new ≡ kept_by self.old segment.now kinds.Totals self.old.course.phase self.old.course.count self.old.course.check) }
     {
         self.course.keep(Kind::Totals, segment)?;
-        let said = self.course.totals().quantity;
-        let computed = quantities(self.course.lines());
-        if said != computed {
-            return refuse(
-                segment,
-                SetReason::Totals {
-                    said: u64::from(said),
-                    computed: i128::from(computed),
-                },
-            );
-        }
-        Ok(())
+        let course = &self.course;
+        compare_totals(segment, course.totals(), course.lines(), course.extras())
     }
 
     /// What was read, where the set is whole; the place is the text's length.

@@ -99,14 +99,13 @@ extended_first [] line next lines = refl
 extended_first (extra ∷ extras) line next [] = extended_first extras line (extended extra next) []
 extended_first (extra ∷ extras) line next (more ∷ lines) = extended_first extras line next (with_extra extra (more ∷ lines))
 
-pub room_inside : (allowance : Allowance) (inside : List Extra) (lines more : List Line) → All (λ (line : Line). allowances line.extras ≤ MOST_ALLOWANCES) (with_extras (Allow allowance ∷ inside) lines ++ more)
-    → allowances (last_extras lines) < MOST_ALLOWANCES
+pub room_inside : (allowance : Allowance) (inside : List Extra) (lines more : List Line) → All HasExtras (with_extras (Allow allowance ∷ inside) lines ++ more) → allowances (last_extras lines) < MOST_ALLOWANCES
 room_inside allowance inside [] more behind = omega arith
 room_inside allowance inside (line ∷ []) more behind =
     let last : with_extras (Allow allowance ∷ inside) (line ∷ []) ≡ extended_by line (Allow allowance ∷ inside) ∷ [] = with_extras_last (Allow allowance ∷ inside) [] line in
-    let all = subst (λ (u : List Line). All (λ (line : Line). allowances line.extras ≤ MOST_ALLOWANCES) (u ++ more)) last behind in
-    some_allowances allowance inside line.extras (All-head (λ (line : Line). allowances line.extras ≤ MOST_ALLOWANCES) (extended_by line (Allow allowance ∷ inside)) more all)
+    let all = subst (λ (u : List Line). All HasExtras (u ++ more)) last behind in
+    some_allowances allowance inside line.extras (All-head HasExtras (extended_by line (Allow allowance ∷ inside)) more all).few
 room_inside allowance inside (line ∷ next ∷ lines) more behind =
     let first : with_extras (Allow allowance ∷ inside) (line ∷ next ∷ lines) ≡ line ∷ with_extras (Allow allowance ∷ inside) (next ∷ lines) = extended_first (Allow allowance ∷ inside) line next lines in
-    let all = subst (λ (u : List Line). All (λ (line : Line). allowances line.extras ≤ MOST_ALLOWANCES) (u ++ more)) first behind in
-    room_inside allowance inside (next ∷ lines) more (All-tail (λ (line : Line). allowances line.extras ≤ MOST_ALLOWANCES) line (with_extras (Allow allowance ∷ inside) (next ∷ lines) ++ more) all)
+    let all = subst (λ (u : List Line). All HasExtras (u ++ more)) first behind in
+    room_inside allowance inside (next ∷ lines) more (All-tail HasExtras line (with_extras (Allow allowance ∷ inside) (next ∷ lines) ++ more) all)

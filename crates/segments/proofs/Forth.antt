@@ -10,7 +10,7 @@ use Rattle.dsd_values.specs.declared.line.Line.{Line}
 use Rattle.dsd_values.specs.declared.limits.TheConstants.{MOST_ALLOWANCES, MOST_LINES}
 use Rattle.segments.specs.Views.{Seg, element_of}
 use Rattle.segments.specs.Allowances.{IsAllowance, allowance_in}
-use Rattle.segments.specs.Extras.{IsExtra, allowances, extra_in, is_allowance, is_note, kept_text}
+use Rattle.segments.specs.Extras.{AreExtras, HasExtras, IsExtra, allowances, extra_in, is_allowance, is_note, kept_text}
 use Rattle.segments.specs.Tables.{line_in, loop_id_in, totals_in, signature_in, integrity_in, stated_count_in, control_again_in}
 use Rattle.segments.specs.Kinds.{kind_of, next_phase}
 use Rattle.segments.specs.SoFar.{SoFar, in_line, lines_after, extras_after, kept, phase_in}
@@ -115,7 +115,7 @@ module _ (form : Form) (m : SoFar) (t : Shared) (before : List Seg) (seg : Seg) 
       let here : t.lines ≡ with_extras (Allow (allowance_in seg) ∷ inside) m.lines ++ lines = l ∙ ap (λ (e : Extra). with_extras (e ∷ inside) m.lines ++ lines) said in
       (
         k,
-        allowance_none true allowance i is (room_inside allowance inside m.lines lines (subst (λ (u : List Line). All (λ (line : Line). allowances line.extras ≤ MOST_ALLOWANCES) u) l sound.behind)),
+        allowance_none true allowance i is (room_inside allowance inside m.lines lines (subst (λ (u : List Line). All HasExtras u) l sound.behind)),
         (inside, lines, extras, (r, inside_on kinds.Allowance inside lines _ i refl here, extras_on kinds.Allowance true m.extras extras i refl x, c), rest),
       )
 
@@ -182,7 +182,7 @@ module _ (m : SoFar) (t : Shared) (before : List Seg) (seg : Seg) (segs : List S
       let here : t.extras ≡ (m.extras ++ Allow (allowance_in seg) ∷ []) ++ extras = x ∙ ap (λ (e : Extra). m.extras ++ e ∷ extras) said ∙ sym (append_assoc m.extras (Allow (allowance_in seg) ∷ []) extras) in
       (
         k,
-        allowance_none forms.Base m t before seg segs count check sound at false allowance i is (room_beside allowance m.extras extras (subst (λ (u : List Extra). allowances u ≤ MOST_ALLOWANCES) x sound.beside)),
+        allowance_none forms.Base m t before seg segs count check sound at false allowance i is (room_beside allowance m.extras extras (subst (λ (u : List Extra). AreExtras false u) x sound.beside).few),
         (extras, (r, lines_on forms.Base m t before seg segs count check sound at kinds.Allowance i refl l, extras_on forms.Base m t before seg segs count check sound at kinds.Allowance false _ extras i refl here, c), rest),
       )
 

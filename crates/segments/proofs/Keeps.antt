@@ -7,7 +7,6 @@ use Rattle.dsd_values.specs.Behind.{with_extra}
 use Rattle.dsd_values.specs.declared.extra.Extra.{Extra}
 use Rattle.dsd_values.specs.declared.extra.Extra.TheVariants.{Allow, Note}
 use Rattle.std.specs.List.{All}
-use Rattle.std.proofs.lemmas.List.Elements.{All-weaker}
 use Rattle.segments.specs.declared.segment_fault.SegmentFault.{SegmentFault}
 use Rattle.segments.specs.declared.set_fault.SetReason.{SetReason}
 use Rattle.segments.specs.declared.kind.Form.{Form}
@@ -114,14 +113,8 @@ keeps kinds.LineNote m seg phase count check e s = line_note_sound (in_line m.ph
 keeps kinds.Note m seg phase count check e s = note_sound (in_line m.phase) (line_in seg) (kept_text seg) m.lines m.extras s
 keeps _ m seg phase count check e s = s
 
--- a sound set has few allowances
 pub is_sound : (lines : List Line) (extras : List Extra) → Sound lines extras → IsSound lines extras
-is_sound lines extras (apart, most, behind, right) = record {
-  apart = apart;
-  limit = most;
-  behind = All-weaker HasExtras (λ (line : Line). allowances line.extras ≤ MOST_ALLOWANCES) (λ line h. h.few) lines behind;
-  beside = right.few;
-}
+is_sound lines extras (apart, most, behind, right) = record { apart = apart; limit = most; behind = behind; beside = right }
 
 -- A segment of this kind may stand there, and ends where a set may end.
 pub record MayStand (form : Form) (phase : Phase) (kind : Kind) (seg : Seg) : Type 0 where

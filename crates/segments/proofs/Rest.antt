@@ -5,7 +5,7 @@ use Rattle.dsd_values.specs.declared.extra.Extra.{Extra}
 use Rattle.dsd_values.specs.declared.line.Line.{Line}
 use Rattle.segments.specs.Views.{Seg}
 use Rattle.segments.specs.SoFar.{SoFar}
-use Rattle.segments.specs.Grammar.{Shape, Shared, Trailer, Integrity, Signed, Closing, Extras, Items, LoopEnd, Record, Body, References, bytes_of}
+use Rattle.segments.specs.Grammar.{Shape, Shared, Trailer, Integrity, Signed, Closing, Extras, Items, LoopEnd, Record, Body, BehindHead, bytes_of}
 use Rattle.segments.specs.declared.kind.Form.{Form}
 use Rattle.segments.specs.declared.phase.Phase.{Phase}
 use Rattle.segments.specs.declared.phase.Phase.TheVariants as phases
@@ -36,7 +36,7 @@ abbrev pub RestAt : Phase → Form → SoFar → Shared → Shape
 RestAt phases.Start form m t before segs = ⊥
 RestAt phases.Head form m t before segs = ⊥
 RestAt phases.References form m t before segs = (texts : List (List ℕ)) × (lines : List Line) × (beside : List Extra)
-    × Left m t texts [] lines beside × References form texts (Body form lines beside t) before segs
+    × Left m t texts [] lines beside × BehindHead form texts lines beside t before segs
 RestAt phases.Body form m t before segs = (lines : List Line) × (beside : List Extra)
     × Left m t [] [] lines beside × Body form lines beside t before segs
 RestAt phases.FirstItem form m t before segs = (line : Line) × (lines : List Line) × (beside : List Extra)

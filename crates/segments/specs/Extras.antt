@@ -47,7 +47,7 @@ abbrev pub IsSized : Bool → Extra → Type 0
 IsSized in_line (Allow allowance) = HasSize in_line allowance
 IsSized in_line (Note text) = Unit {0}
 
--- each of them has one, and they are no more allowances than may stand there
+-- each has one where it has to, and they are no more allowances than may stand there
 pub record AreExtras (in_line : Bool) (extras : List Extra) : Type 0 where
   pub sized : All (IsSized in_line) extras
   pub few : allowances extras ≤ MOST_ALLOWANCES

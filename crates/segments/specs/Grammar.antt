@@ -7,10 +7,10 @@ use Rattle.dsd_values.specs.Reading.{plain_number_of, dsd_of, quantity_of, total
 use Rattle.dsd_values.specs.declared.extra.Extra.{Extra}
 use Rattle.dsd_values.specs.declared.line.Line.{Line}
 use Rattle.dsd_values.specs.declared.signature.Signature.{Signature}
-use Rattle.dsd_values.specs.declared.limits.TheConstants.{MOST_ALLOWANCES, MOST_LINES}
+use Rattle.dsd_values.specs.declared.limits.TheConstants.{MOST_LINES}
 use Rattle.segments.specs.Views.{Seg, element_of}
 use Rattle.segments.specs.Elements.{optional, tail_from}
-use Rattle.segments.specs.Extras.{IsExtra, allowances, kept_text}
+use Rattle.segments.specs.Extras.{AreExtras, HasExtras, IsExtra, kept_text}
 use Rattle.segments.specs.Kinds.{kind_of}
 use Rattle.segments.specs.Reasons.{has_line}
 use Rattle.segments.specs.declared.stated.StatedTotals.{StatedTotals}
@@ -162,9 +162,9 @@ References forms.Base (text ∷ texts) rest before segs = OneReference forms.Bas
 References forms.Answer (text ∷ []) rest before segs = OneReference forms.Answer text rest before segs
 References forms.Answer (text ∷ next ∷ texts) rest before segs = ⊥
 
--- what stands behind the head
-abbrev pub BehindHead : Form → Shared → Shape
-BehindHead form t = References form t.references (Body form t.lines t.extras t)
+-- what stands behind the head: these references, lines and extras, and the closing
+abbrev pub BehindHead : Form → List (List ℕ) → List Line → List Extra → Shared → Shape
+BehindHead form texts lines extras t = References form texts (Body form lines extras t)
 
 -- ---- what holds of the lines as a whole
 
@@ -177,5 +177,5 @@ AreApart (line ∷ lines) = (has_line line.dsd lines ≡ false) × AreApart line
 pub record IsSound (lines : List Line) (extras : List Extra) : Type 0 where
   pub apart : AreApart lines
   pub limit : length lines ≤ MOST_LINES
-  pub behind : All (λ (line : Line). allowances line.extras ≤ MOST_ALLOWANCES) lines
-  pub beside : allowances extras ≤ MOST_ALLOWANCES
+  pub behind : All HasExtras lines
+  pub beside : AreExtras false extras

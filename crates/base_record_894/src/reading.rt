@@ -1,4 +1,4 @@
-//! Reading a plain base record from its text.
+//! Reading a base record from its text.
 
 ghost use Rattle.std.specs.Prelude.{◌≡◌, ℕ, ◌+◌, ◌<◌, ◌≤◌, List, [], ◌∷◌, length, IfOk, IfSome, OnOk, None, Some};
 ghost use Rattle.segments.specs.Refusal.{Answers};
@@ -6,7 +6,7 @@ ghost use Rattle.segments.specs.SegmentCut.{cut_of, next_of, left_after};
 ghost use Rattle.segments.specs.SegmentSpelling.{IsFront};
 ghost use Rattle.segments.specs.declared.seal.Seal.{Seal as SealValue};
 ghost use Rattle.base_record_894.specs.BaseRecord.{BaseRecord};
-ghost use Rattle.base_record_894.specs.PlainText.{IsPlain894};
+ghost use Rattle.base_record_894.specs.RecordText.{Is894};
 ghost use Rattle.base_record_894.specs.Said.{nothing};
 ghost use Rattle.base_record_894.specs.FirstRefusal.{refusal_of, IsWithin};
 ghost use Rattle.base_record_894.specs.ReadParts.{segment_at, said_by, IsReadFrom};
@@ -14,40 +14,23 @@ ghost use Rattle.base_record_894.specs.ReadParts.{segment_at, said_by, IsReadFro
 use crate::base::{Base, seal_up};
 use crate::parts::Parts;
 use crate::reader::Reader;
-use dsd_values::Cents;
 use segments::{Seal, Segment, SegmentReader, SetFault, SetReason};
 use std::alloc::Global;
 
 /// Reads a base record: its value and its seal.
 pub fn read_894(alloc: Global, text: &[u8]) -> Result<(Base, Seal), SetFault>
     // What is read is spelled so.
-    ensures found { IfOk result (λ x. (amount : ℕ) × IsPlain894 x.0 x.1 amount text.now) }
+    ensures found { IfOk result (λ x. Is894 x.0 x.1 text.now) }
 
     // What is spelled so is read, unless memory runs out.
-    ensures only { (base : BaseRecord) (seal : SealValue) (amount : ℕ) → IsPlain894 base seal amount text.now → Answers result None (λ x. (x.0 ≡ base) × (x.1 ≡ seal)) }
-
-    // It is refused at the first segment that has a reason against it, for its first one.
-    ensures exact { Answers result (refusal_of text.now) (λ _. Unit {0}) }
-    ensures within { IsWithin result (length text.now) }
-{
-    let (base, seal, _) = read_plain_894(alloc, text)?;
-    Ok((base, seal))
-}
-
-/// Reads a base record: its value, its seal, and the amount as it is said, which may differ from the price.
-pub fn read_plain_894(alloc: Global, text: &[u8]) -> Result<(Base, Seal, Cents), SetFault>
-    // What is read is spelled so.
-    ensures found { IfOk result (λ x. IsPlain894 x.0 x.1 x.2 text.now) }
-
-    // What is spelled so is read, unless memory runs out.
-    ensures only { (base : BaseRecord) (seal : SealValue) (amount : ℕ) → IsPlain894 base seal amount text.now → Answers result None (λ x. (x.0 ≡ base) × (x.1 ≡ seal) × (x.2 ≡ amount)) }
+    ensures only { (base : BaseRecord) (seal : SealValue) → Is894 base seal text.now → Answers result None (λ x. (x.0 ≡ base) × (x.1 ≡ seal)) }
 
     // It is refused at the first segment that has a reason against it, for its first one.
     ensures exact { Answers result (refusal_of text.now) (λ _. Unit {0}) }
     ensures within { IsWithin result (length text.now) }
 {
     let parts = read_parts(alloc, text)?;
-    Ok(seal_up(alloc, parts))
+    Ok(seal_up(parts))
 }
 
 /// Reads segment after segment.

@@ -1,0 +1,36 @@
+-- Which texts are a base record, of which value: a relation, apart from any reading.
+use Rattle.std.specs.Prelude.{◌≡◌, ◌≤◌, ℕ, pos, List, length, All}
+use Rattle.dsd_pricing.specs.Pricing.{priced}
+use Rattle.dsd_values.specs.declared.limits.TheConstants.{SET_BYTES}
+use Rattle.segments.specs.Views.{Seg}
+use Rattle.segments.specs.SegmentSpelling.{IsSegment, Spells, SpellsSegments}
+use Rattle.segments.specs.Grammar.{IsSound}
+use Rattle.segments.specs.declared.seal.Seal.{Seal}
+use Rattle.base_record_894.specs.BaseRecord.{BaseRecord}
+use Rattle.base_record_894.specs.Grammar.{AreSegments}
+
+-- The text is segments in the order of a base record, each of which says its part of this record; it states the amount that the
+-- rows come to, and is sealed so.
+pub record Is894 (base : BaseRecord) (seal : Seal) (text : List ℕ) : Type 0 where
+  pub segments : List Seg
+  pub spelled : SpellsSegments 0 segments text
+  pub amount : ℕ
+  pub price : pos amount ≡ priced base.lines base.extras
+  pub shape : AreSegments base seal amount segments
+  pub sound : IsSound base.lines base.extras
+  pub short : length text ≤ SET_BYTES
+
+-- a segment of any length in its spelling
+pub record IsLongSegment (seg : Seg) : Type 0 where
+  pub segment : IsSegment seg.parts
+  pub spelled : Spells seg.parts seg.bytes
+
+-- Some segments say the record, however long they are: the records that a text spells, lengths aside.
+pub record IsBase (base : BaseRecord) : Type 0 where
+  pub seal : Seal
+  pub segments : List Seg
+  pub spelled : All IsLongSegment segments
+  pub amount : ℕ
+  pub price : pos amount ≡ priced base.lines base.extras
+  pub shape : AreSegments base seal amount segments
+  pub sound : IsSound base.lines base.extras
