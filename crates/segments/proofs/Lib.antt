@@ -25,3 +25,5 @@ pub mod Walk
 pub mod RightAllowances
 pub mod EmptyEnds
 pub mod Written
+pub mod GivenRows
+pub mod Rows
