@@ -26,4 +26,5 @@ pub mod RightAllowances
 pub mod EmptyEnds
 pub mod Written
 pub mod GivenRows
+pub mod ControlNumbers
 pub mod Rows

@@ -1,15 +1,22 @@
 -- Rows, one after another: what is asked of them, and what a writer of them answers.
-use Rattle.std.proofs.Common.{◌≡◌, ℕ, ◌+◌, ◌<◌, ◌≤◌, Bool, true, false, inl, inr, nat_lt, List, [], ◌∷◌, ◌++◌, length, map, drop, get_or, Option, Some, None, Result, Ok, Err, refl, sym, ◌∙◌, ap, subst, arith, append-nil, append_assoc, length-append}
+use Rattle.std.proofs.Common.{◌≡◌, ℕ, zero, suc, ◌+◌, ◌<◌, ◌≤◌, ◌==◌, Bool, true, false, IsTrue, inl, inr, nat_lt, List, [], ◌∷◌, ◌++◌, length, map, drop, get_or, Option, Some, None, Result, Ok, Err, refl, sym, ◌∙◌, ap, subst, arith, append-nil, append_assoc, length-append}
 use Rattle.std.specs.List.{All, flat_map}
 use Rattle.std.proofs.lemmas.Bool.{cases_Bool}
-use Rattle.std.proofs.lemmas.List.{drop_more}
-use Rattle.std.proofs.lemmas.List.Elements.{All-cons, All-nil, All-head, All-tail}
+use Rattle.std.proofs.lemmas.Bool.Decides.{nat_tests}
+use Rattle.std.proofs.lemmas.List.{drop_all, drop_more, get_or-map, length-map}
+use Rattle.std.proofs.lemmas.List.Concat.{flat_map_single}
+use Rattle.std.proofs.lemmas.List.Elements.{All-cons, All-get_or, All-nil, All-head, All-tail}
+use Rattle.std.specs.Result.{IsErr, IsErrAnd}
 use Rattle.dsd_values.specs.Answers.{UnlessMemory}
 use Rattle.segments.specs.Elements.{◌or_else◌}
 use Rattle.segments.specs.RowsWritten.{SetSoFar, after_writing, first_long, unless_long, with_rows}
-use Rattle.segments.specs.SegmentSpelling.{IsPart, IsSegment}
+use Rattle.segments.specs.SegmentSpelling.{IsPart, IsSegment, is_id}
+use Rattle.segments.proofs.Written.{element_part, id_part}
+use Rattle.dsd_values.specs.Reading.{IsElementText}
 use Rattle.segments.specs.SegmentWriting.{line_of, text_of}
-use Rattle.segments.specs.SetWriting.{Row, parted, row_of}
+use Rattle.segments.specs.SetWriting.{Row, line_rows, loop_end_row, loop_rows, loop_start_row, parted, row_of}
+use Rattle.segments.specs.declared.kind.Form.{Form}
+use Rattle.dsd_values.specs.declared.line.Line.{Line}
 use Rattle.segments.specs.declared.segment_write_fault.SegmentWriteFault.{SegmentWriteFault}
 use Rattle.segments.specs.declared.segment_write_fault.SegmentWriteFault.TheVariants.{LongSegment, Memory}
 
@@ -115,18 +122,90 @@ first_refused rows more old first second fault e f (inr is) = inr (f ∙ long_ro
 abbrev pub IsLeft : {X : Type 0} → (X → List Row) → List X → SetSoFar → ℕ → SetSoFar → Type 0
 IsLeft rows_of xs start place now = after_writing (flat_map rows_of (drop place xs)) now ≡ after_writing (flat_map rows_of xs) start
 
-module _ {X : Type 0} (rows_of : X → List Row) (xs : List X) (start now : SetSoFar) (place : ℕ) (d : X) (inside : place < length xs) (left : IsLeft rows_of xs start place now) where
-  left_is : flat_map rows_of (drop place xs) ≡ rows_of (get_or xs place d) ++ flat_map rows_of (drop (place + 1) xs)
-  left_is = ap (flat_map rows_of) (drop_more xs place d inside)
+-- an error that is passed on
+pub same_err : {X F : Type 0} (r : Result X F) (e : F) → IsErr r × IsErrAnd r (λ (f : F). f ≡ e) → r ≡ Err e
+same_err (Ok x) e h = let f : false ≡ true = h.0 in cc (f)
+same_err (Err f) e h = ap (λ u. Err u) h.1
 
-  pub next_left : (answer : Answer) (mid : SetSoFar) → answer ≡ Ok mid → Answers answer (after_writing (rows_of (get_or xs place d)) now) → IsLeft rows_of xs start (place + 1) mid
+-- at an element of the list
+module _ {X : Type 0} (rows_of : X → List Row) (xs : List X) (start now : SetSoFar) (place : ℕ) (x : X) (is : x ≡ get_or xs place x) (inside : place < length xs) (left : IsLeft rows_of xs start place now) where
+  left_is : flat_map rows_of (drop place xs) ≡ rows_of x ++ flat_map rows_of (drop (place + 1) xs)
+  left_is = ap (flat_map rows_of) (drop_more xs place x inside) ∙ ap (λ (y : X). rows_of y ++ flat_map rows_of (drop (place + 1) xs)) (sym is)
+
+  pub next_left : (answer : Answer) (mid : SetSoFar) → answer ≡ Ok mid → Answers answer (after_writing (rows_of x) now) → IsLeft rows_of xs start (place + 1) mid
   next_left answer mid e h =
-      then_rows (rows_of (get_or xs place d)) (flat_map rows_of (drop (place + 1) xs)) now mid (was_written answer mid (after_writing (rows_of (get_or xs place d)) now) e h)
+      then_rows (rows_of x) (flat_map rows_of (drop (place + 1) xs)) now mid (was_written answer mid (after_writing (rows_of x) now) e h)
       ∙ ap (λ (rows : List Row). after_writing rows now) (sym left_is)
       ∙ left
 
-  pub next_refused : (first second : Answer) (fault : SegmentWriteFault) → first ≡ Err fault → second ≡ Err fault → Answers first (after_writing (rows_of (get_or xs place d)) now) → Answers second (after_writing (flat_map rows_of xs) start)
+  pub next_refused : (first second : Answer) (fault : SegmentWriteFault) → first ≡ Err fault → second ≡ Err fault → Answers first (after_writing (rows_of x) now) → Answers second (after_writing (flat_map rows_of xs) start)
   next_refused first second fault e f h =
       subst (Answers second) left
       (subst (λ (rows : List Row). Answers second (after_writing rows now)) (sym left_is)
-      (first_refused (rows_of (get_or xs place d)) (flat_map rows_of (drop (place + 1) xs)) now first second fault e f h))
+      (first_refused (rows_of x) (flat_map rows_of (drop (place + 1) xs)) now first second fault e f h))
+
+-- ---- what is asked of the rows of a list's elements
+
+pub mapped_at : {X : Type 0} (row : X → Row) (xs : List X) (place : ℕ) (x : X) → x ≡ get_or xs place x → place < length xs → All IsSegment (map row xs) → IsSegment (row x)
+mapped_at row xs place x is inside all =
+    let there : place < length (map row xs) = omega (arith, length-map xs row) in
+    subst IsSegment (get_or-map row xs place x [] inside ∙ ap row (sym is)) (All-get_or IsSegment (map row xs) place [] there all)
+
+pub rows_at : {X : Type 0} (rows_of : X → List Row) (xs : List X) (place : ℕ) (x : X) → x ≡ get_or xs place x → place < length xs → All IsSegment (flat_map rows_of xs) → All IsSegment (rows_of x)
+rows_at rows_of xs place x is inside all =
+    let split : flat_map rows_of (drop place xs) ≡ rows_of x ++ flat_map rows_of (drop (place + 1) xs) =
+    ap (flat_map rows_of) (drop_more xs place x inside) ∙ ap (λ y. rows_of y ++ flat_map rows_of (drop (place + 1) xs)) (sym is) in
+    all_front IsSegment (rows_of x) (flat_map rows_of (drop (place + 1) xs)) (subst (All IsSegment) split (rows_from rows_of xs place all))
+  where
+    rows_from : {X : Type 0} (rows_of : X → List Row) (xs : List X) (place : ℕ) → All IsSegment (flat_map rows_of xs) → All IsSegment (flat_map rows_of (drop place xs))
+    rows_from rows_of xs zero all = all
+    rows_from rows_of [] (suc place) all = all
+    rows_from rows_of (x ∷ xs) (suc place) all = rows_from rows_of xs place (all_back IsSegment (rows_of x) (flat_map rows_of xs) all)
+
+-- one row for each element
+abbrev pub IsLeftOf : {X : Type 0} → (X → Row) → List X → SetSoFar → ℕ → SetSoFar → Type 0
+IsLeftOf row xs start place now = IsLeft (λ x. row x ∷ []) xs start place now
+
+pub all_left : {X : Type 0} (rows_of : X → List Row) (xs : List X) (start : SetSoFar) → IsLeft rows_of xs start 0 start
+all_left rows_of xs start = refl
+
+-- none is left
+pub none_left : {X : Type 0} (rows_of : X → List Row) (xs : List X) (start now : SetSoFar) (place : ℕ) (answer : Answer) → IsLeft rows_of xs start place now → length xs ≤ place → answer ≡ Ok now → Answers answer (after_writing (flat_map rows_of xs) start)
+none_left {X} rows_of xs start now place answer left all e =
+    inr (e ∙ sym (no_more_rows now) ∙ ap (λ (l : List X). after_writing (flat_map rows_of l) now) (sym (drop_all place xs all)) ∙ left)
+
+pub one_each : {X : Type 0} (row : X → Row) (xs : List X) (start : SetSoFar) (answer : Answer) → Answers answer (after_writing (flat_map (λ (x : X). row x ∷ []) xs) start) → Answers answer (after_writing (map row xs) start)
+one_each row xs start answer h = subst (λ (rows : List Row). Answers answer (after_writing rows start)) (flat_map_single row xs) h
+
+-- ---- three kinds of rows, one after another
+
+pub three_written : (a b more : List Row) (old m n : SetSoFar) (first second third : Answer) → first ≡ Ok m → Answers first (after_writing a old) → second ≡ Ok n → Answers second (after_writing b m)
+    → Answers third (after_writing more n) → Answers third (after_writing (a ++ (b ++ more)) old)
+three_written a b more old m n first second third e h f g k = both_written a (b ++ more) old m first third e h (both_written b more m n second third f g k)
+
+pub second_refused : (a b more : List Row) (old m : SetSoFar) (first second third : Answer) (fault : SegmentWriteFault) → first ≡ Ok m → Answers first (after_writing a old) → second ≡ Err fault → third ≡ Err fault → Answers second (after_writing b m)
+    → Answers third (after_writing (a ++ (b ++ more)) old)
+second_refused a b more old m first second third fault e h f g k = both_written a (b ++ more) old m first third e h (first_refused b more m second third fault f g k)
+
+-- a loop is there where there are lines
+pub loop_is : (form : Form) (lines : List Line) → 0 < length lines → loop_rows form lines ≡ loop_start_row ∷ (flat_map (line_rows form) lines ++ loop_end_row ∷ [])
+loop_is form [] some = absurd (omega arith)
+loop_is form (line ∷ lines) some = refl
+
+-- rows of one or two elements
+pub one_element : (id text : List ℕ) → IsTrue (is_id id) → IsElementText text → IsSegment (row_of id (text ∷ []) [])
+one_element id text i h = record {
+  characters = All-cons IsPart id (text ∷ []) (id_part id i) (All-cons IsPart text [] (element_part text h) (All-nil IsPart));
+  id = i;
+  few = omega arith;
+}
+
+pub two_elements : (id text next : List ℕ) → IsTrue (is_id id) → IsElementText text → IsElementText next → IsSegment (row_of id (text ∷ next ∷ []) [])
+two_elements id text next i h k = record {
+  characters = All-cons IsPart id (text ∷ next ∷ []) (id_part id i) (All-cons IsPart text (next ∷ []) (element_part text h) (All-cons IsPart next [] (element_part next k) (All-nil IsPart)));
+  id = i;
+  few = omega arith;
+}
+
+pub not_empty : (size : ℕ) → (size == 0) ≡ false → 0 < size
+not_empty size e = grind (arith, nat_tests)

@@ -32,6 +32,14 @@ unless_long None new = Ok new
 abbrev pub after_writing : List Row → SetSoFar → Result SetSoFar SegmentWriteFault
 after_writing rows old = unless_long (first_long rows) (with_rows rows old)
 
+-- the text then
+abbrev pub text_in : Result SetSoFar SegmentWriteFault → Result (List ℕ) SegmentWriteFault
+text_in (Ok new) = Ok new.text
+text_in (Err fault) = Err fault
+
+abbrev pub text_after : List Row → SetSoFar → Result (List ℕ) SegmentWriteFault
+text_after rows old = text_in (after_writing rows old)
+
 -- a writer keeps segments of which none is begun, and no more of them than bytes
 pub record KeepsCount (written : Written) (count : ℕ) : Type 0 where
   pub ended : written.begun ≡ None

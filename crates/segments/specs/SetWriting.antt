@@ -64,7 +64,7 @@ abbrev pub allowance_row : Allowance → Row
 allowance_row allowance =
     row_of (codes "G72")
     (allowance.code ∷ allowance.method ∷ allowance.number ∷ allowance.exception ∷ optional_text cost_text allowance.rate ∷ optional_text number_text allowance.quantity
-        ∷ allowance.unit ∷ optional_text number_text allowance.total ∷ optional_text percent_text allowance.percent ∷ [])
+    ∷ allowance.unit ∷ optional_text number_text allowance.total ∷ optional_text percent_text allowance.percent ∷ [])
     allowance.tail
 
 abbrev pub extra_row : Extra → Row

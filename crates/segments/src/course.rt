@@ -14,10 +14,10 @@ ghost use Rattle.segments.specs.Elements.{Reads};
 ghost use Rattle.segments.specs.Closing.{IsClosed};
 ghost use Rattle.segments.specs.Reasons.{Says, at_segment, admission, allowance_reason, beside, item_reason, loop_end_fault, integrity_reason, trailer_reason, course_reason};
 
+use crate::allowance::read_allowance;
 use crate::closing::{
     read_integrity, read_loop_start, read_signature, read_start, read_totals, read_trailer,
 };
-use crate::allowance::read_allowance;
 use crate::elements::{end_of_elements, kept_at, word_between_at};
 use crate::extras::RecordExtras;
 use crate::item::read_item;
@@ -31,8 +31,8 @@ use crate::set_fault::{SetFault, SetReason};
 use crate::stated::{Closed, StatedTotals};
 use block_check::Running;
 use dsd_values::{
-    Allowance, Cents, Check, Extra, Kept, Line, MOST_ALLOWANCES, MOST_LINES, Memory, SET_BYTES, Signature,
-    ValueFault, Word,
+    Allowance, Cents, Check, Extra, Kept, Line, MOST_ALLOWANCES, MOST_LINES, Memory, SET_BYTES,
+    Signature, ValueFault, Word,
 };
 use std::alloc::Global;
 use std::marker::Model;

@@ -67,6 +67,16 @@ pub fn cut(text: &[u8]) -> (&[u8], Option<&[u8]>)
     }
 }
 
+/// The text, or the empty one where there is none.
+pub fn or_empty(text: Option<&[u8]>) -> &[u8]
+    ensures { result.now ≡ behind_star text.entry }
+{
+    match text {
+        Some(text) => text,
+        None => &[],
+    }
+}
+
 /// What stands behind this place.
 fn behind(text: &[u8], place: usize) -> &[u8]
     requires { place < length text.now }

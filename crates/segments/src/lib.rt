@@ -24,6 +24,7 @@ mod segment_writer;
 mod set_fault;
 mod set_writer;
 mod stated;
+mod texts;
 mod writing_laws;
 
 pub use allowance::read_allowance;
