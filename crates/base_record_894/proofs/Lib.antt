@@ -1,3 +1,4 @@
+pub mod Amounts
 pub mod Moves
 pub mod FoundOnly
 pub mod Reading

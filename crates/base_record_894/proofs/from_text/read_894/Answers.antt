@@ -1,7 +1,7 @@
 use Rattle.std.proofs.Common.{◌≡◌, refl}
 use Rattle.base_record_894.proofs.Reading.{same_err}
 use Rattle.base_record_894.proofs.OneRecord.{err_on}
-use Rattle.base_record_894.proofs.plain.read_894.Goals as goal
+use Rattle.base_record_894.proofs.from_text.read_894.Goals as goal
 
 pub returns-in_err-base-clause-only : goal.returns-in_err-base-clause-only
 returns-in_err-base-clause-only c = λ base seal amount is. err_on _ _ _ _ _ (same_err _ _ c.from_residual.ensures) (c.in_err-base.ensures.only base seal amount is)
