@@ -3,3 +3,4 @@ pub mod Moves
 pub mod FoundOnly
 pub mod Reading
 pub mod OneRecord
+pub mod Totalled

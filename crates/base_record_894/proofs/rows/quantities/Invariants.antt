@@ -1,5 +1,5 @@
 use Rattle.std.proofs.Common.{◌≡◌, ◌≤◌, ◌*◌, take}
-use Rattle.base_record_894.specs.BaseRecord.{quantities}
+use Rattle.dsd_pricing.specs.Pricing.{quantities}
 use Rattle.base_record_894.proofs.rows.quantities.Given as goal
 
 abbrev pub invariant-loop-line : goal.invariant-loop-line
