@@ -81,6 +81,9 @@ price_answer lines extras now beside totals l x e =
     let same : totals_of now beside ≡ totals_of lines extras = ap (λ (u : List Line). totals_of u beside) l ∙ ap (λ (u : List Extra). totals_of lines u) x in
     totals_priced lines extras totals.quantity totals.amount (sym (e ∙ same))
 
+pub amount_is : (amount : ℕ) (sum : ℤ) → pos amount ≡ sum → amount ≡ unsigned_abs sum
+amount_is amount sum e = ap unsigned_abs e
+
 pub cents_low : (text : List ℕ) (cents : ℕ) → cents_of text ≡ Ok cents → cents ≤ MOST_CENTS
 cents_low text cents e = ((number_spelled 0 MOST_CENTS text (cents_of text) refl cents).0 e).at_most
 
