@@ -1,15 +1,22 @@
--- What is read is a plain base record, and what is one is read.
-use Rattle.std.proofs.Common.{◌≡◌, ℕ, ◌+◌, ◌≤◌, ◌<◌, ◌&&◌, Bool, true, false, List, [], ◌∷◌, ◌++◌, length, Result, Ok, Err, Some, None, Option, IfOk, refl, sym, ap, ◌∙◌, subst, arith, length-append}
+-- What is read is a base record, and what is one is read.
+use Rattle.std.proofs.Common.{◌≡◌, ℕ, ◌+◌, ◌≤◌, ◌<◌, ◌&&◌, Bool, true, false, List, [], ◌∷◌, ◌++◌, length, Result, Ok, Err, Some, None, Option, IfOk, pos, refl, sym, ap, ◌∙◌, subst, arith, length-append}
 use Rattle.block_check.specs.Crc16.{crc_from}
+use Rattle.std.specs.List.{All}
+use Rattle.std.proofs.lemmas.List.Elements.{All-nil}
+use Rattle.dsd_pricing.specs.Pricing.{priced, quantities, totals_of}
+use Rattle.dsd_values.specs.declared.cents.TheConstants.Cents.{MAX as MOST_CENTS}
+use Rattle.dsd_values.specs.declared.extra.Extra.{Extra}
 use Rattle.dsd_values.specs.declared.line.Line.{Line}
+use Rattle.segments.specs.Extras.{HasExtras}
+use Rattle.segments.specs.Tables.{totals_fault, totals_in}
 use Rattle.dsd_values.specs.declared.limits.TheConstants.{MOST_LINES, SET_BYTES}
-use Rattle.segments.specs.Views.{Seg}
+use Rattle.segments.specs.Views.{Seg, element_of}
 use Rattle.segments.specs.Kinds.{kind_of, next_phase, is_done}
 use Rattle.segments.specs.SoFar.{SoFar, kept, phase_in}
 use Rattle.segments.specs.Elements.{◌or_else◌}
-use Rattle.segments.specs.Reasons.{course_reason, admission}
+use Rattle.segments.specs.Reasons.{as_value, course_reason, admission}
 use Rattle.segments.specs.Refusal.{Refusal, refused_at, ended_at, Answers}
-use Rattle.segments.specs.Grammar.{Shared, IsSound, AreApart}
+use Rattle.segments.specs.Grammar.{Shared, IsSound}
 use Rattle.segments.specs.Closing.{IsClosed}
 use Rattle.segments.specs.SegmentSpelling.{SpellsSegments}
 use Rattle.segments.specs.SegmentCut.{Cut, cut_of}
@@ -24,18 +31,21 @@ use Rattle.segments.specs.declared.kind.Form.TheVariants as forms
 use Rattle.segments.specs.declared.phase.Phase.{Phase}
 use Rattle.segments.specs.declared.phase.Phase.TheVariants as phases
 use Rattle.segments.proofs.Cutting.{spelled_of-cut, cut_of-spelled}
-use Rattle.segments.proofs.Small.{both_none, none_then, not_when, same_number}
-use Rattle.segments.proofs.Rest.{IsAt}
-use Rattle.segments.proofs.Back.{moves, is_plain}
-use Rattle.segments.proofs.Keeps.{Sound, keeps, at_next, refused_none, none_refused, ended_none, none_ended, done_is, MayStand, may_stand, admitted}
-use Rattle.base_record_894.specs.BaseRecord.{BaseRecord, quantities}
-use Rattle.base_record_894.specs.Grammar.{shared_of, FromStart}
-use Rattle.base_record_894.specs.PlainText.{IsPlain894}
-use Rattle.base_record_894.specs.Said.{Said, nothing, own_reason, reason_of, answer_reason, quantity_reason, kept_by, after, is_whole, has_head}
+use Rattle.segments.proofs.Small.{both_none, no_value, none_then, not_when, same_number}
+use Rattle.segments.proofs.Rest.{IsAt, Read}
+use Rattle.segments.proofs.Back.{moves}
+use Rattle.segments.proofs.Behind.{no_extras}
+use Rattle.segments.proofs.Keeps.{Sound, is_sound, keeps, at_next, refused_none, none_refused, ended_none, none_ended, done_is, MayStand, may_stand, admitted}
+use Rattle.base_record_894.specs.BaseRecord.{BaseRecord}
+use Rattle.base_record_894.specs.Grammar.{shared_of, AreSegments, FromStart}
+use Rattle.base_record_894.specs.RecordText.{Is894}
+use Rattle.base_record_894.specs.Said.{Said, nothing, own_reason, reason_of, answer_reason, rows_reason, kept_by, after, is_whole, has_head}
 use Rattle.base_record_894.specs.FirstRefusal.{refusal_from}
 use Rattle.base_record_894.specs.ReadParts.{said_by, IsReadFrom, record_of, seal_of}
 use Rattle.base_record_894.specs.declared.head.Head.{Head}
 use Rattle.base_record_894.specs.declared.parts.Parts.{Parts}
+use Rattle.base_record_894.proofs.Amounts.{cents_low, priced_totals, same_amount, totals_priced}
+use Rattle.segments.proofs.Faultless.{totals_right}
 use Rattle.base_record_894.proofs.Moves.{Rest894, head_of, back, forth}
 
 record Stands (m : Said) (seg : Seg) : Type 0 where
@@ -53,7 +63,7 @@ at_after : (m : Said) (before : List Seg) (seg : Seg) → IsAt before m.course �
 unfolding kept_by
 at_after m before seg at = at_next m.course before seg (kind_of forms.Base seg) (phase_in (next_phase m.course.phase (kind_of forms.Base seg) forms.Base)) at
 
--- ---- the stated quantity, behind the totals
+-- ---- the stated totals, behind the totals
 
 abbrev is_behind : Phase → Bool
 is_behind phases.Signature = true
@@ -62,13 +72,36 @@ is_behind phases.Trailer = true
 is_behind phases.Done = true
 is_behind _ = false
 
-abbrev Sums : SoFar → Type 0
-Sums m = is_behind m.phase ≡ true → m.totals.quantity ≡ quantities m.lines
+-- the stated totals are those of the rows, and can be stated
+abbrev Agree : StatedTotals → List Line → List Extra → Type 0
+Agree totals lines extras = (totals.quantity ≡ quantities lines) × (pos totals.amount ≡ priced lines extras) × (totals.amount ≤ MOST_CENTS)
 
+abbrev Sums : SoFar → Type 0
+Sums m = is_behind m.phase ≡ true → Agree m.totals m.lines m.extras
+
+-- what changes the rows leads to no phase behind the totals
 item_before : (p : Phase) → is_behind (phase_in (next_phase p kinds.Item forms.Base)) ≡ false
 item_before phases.FirstItem = refl
 item_before phases.Items = refl
 item_before _ = refl
+
+allowance_before : (p : Phase) → is_behind (phase_in (next_phase p kinds.Allowance forms.Base)) ≡ false
+allowance_before phases.References = refl
+allowance_before phases.Body = refl
+allowance_before phases.Items = refl
+allowance_before phases.Extras = refl
+allowance_before _ = refl
+
+line_note_before : (p : Phase) → is_behind (phase_in (next_phase p kinds.LineNote forms.Base)) ≡ false
+line_note_before phases.Items = refl
+line_note_before _ = refl
+
+note_before : (p : Phase) → is_behind (phase_in (next_phase p kinds.Note forms.Base)) ≡ false
+note_before phases.References = refl
+note_before phases.Body = refl
+note_before phases.Items = refl
+note_before phases.Extras = refl
+note_before _ = refl
 
 -- a segment that is neither an item nor the totals leads behind them only from behind them
 behind_before : (p : Phase) (k : Kind) → is_behind (phase_in (next_phase p k forms.Base)) ≡ true → (k ≡ kinds.Totals → ⊥) → is_behind p ≡ true
@@ -85,17 +118,28 @@ behind_before phases.FirstItem kinds.Item e n = cc
 behind_before phases.Items kinds.Item e n = cc
 behind_before _ _ e n = cc
 
+never : {X : Type 0} (b : Bool) → b ≡ false → b ≡ true → X
+never true e h = cc
+never false e h = cc
+
+totals_agree : (m : SoFar) (seg : Seg) → (as_value (totals_fault seg) or_else rows_reason (totals_in seg) m.lines m.extras) ≡ None → Agree (totals_in seg) m.lines m.extras
+totals_agree m seg e =
+    let both = both_none _ _ e in
+    let right = totals_right seg (no_value _ both.0) in
+    let sums = both_none _ _ both.1 in
+    (same_number _ _ (not_when _ _ sums.0), same_amount _ _ (not_when _ _ sums.1), cents_low (element_of seg 2) _ right.amount)
+
 sums_kept : (k : Kind) (m : Said) (seg : Seg) (count check : ℕ) → own_reason m seg k ≡ None → Sums m.course → Sums (kept_by m seg k (phase_in (next_phase m.course.phase k forms.Base)) count check).course
 unfolding kept kept_by
-sums_kept kinds.Item m seg count check e s = λ b. let no_way : true ≡ false = sym b ∙ item_before m.course.phase in cc
-sums_kept kinds.Totals m seg count check e s = λ b. same_number _ _ (not_when _ _ (both_none _ _ e).1)
+sums_kept kinds.Item m seg count check e s = never _ (item_before m.course.phase)
+sums_kept kinds.Allowance m seg count check e s = never _ (allowance_before m.course.phase)
+sums_kept kinds.LineNote m seg count check e s = never _ (line_note_before m.course.phase)
+sums_kept kinds.Note m seg count check e s = never _ (note_before m.course.phase)
+sums_kept kinds.Totals m seg count check e s = λ b. totals_agree m.course seg e
 sums_kept kinds.Start m seg count check e s = λ b. s (behind_before m.course.phase kinds.Start b (λ n. cc))
 sums_kept kinds.Head m seg count check e s = λ b. s (behind_before m.course.phase kinds.Head b (λ n. cc))
 sums_kept kinds.Reference m seg count check e s = λ b. s (behind_before m.course.phase kinds.Reference b (λ n. cc))
 sums_kept kinds.LoopStart m seg count check e s = λ b. s (behind_before m.course.phase kinds.LoopStart b (λ n. cc))
-sums_kept kinds.Allowance m seg count check e s = λ b. s (behind_before m.course.phase kinds.Allowance b (λ n. cc))
-sums_kept kinds.LineNote m seg count check e s = λ b. s (behind_before m.course.phase kinds.LineNote b (λ n. cc))
-sums_kept kinds.Note m seg count check e s = λ b. s (behind_before m.course.phase kinds.Note b (λ n. cc))
 sums_kept kinds.LoopEnd m seg count check e s = λ b. s (behind_before m.course.phase kinds.LoopEnd b (λ n. cc))
 sums_kept kinds.Signature m seg count check e s = λ b. s (behind_before m.course.phase kinds.Signature b (λ n. cc))
 sums_kept kinds.Integrity m seg count check e s = λ b. s (behind_before m.course.phase kinds.Integrity b (λ n. cc))
@@ -104,7 +148,8 @@ sums_kept kinds.Other m seg count check e s = λ b. s (behind_before m.course.ph
 
 -- ---- what holds all along
 
-own_keeps : (k : Kind) (m : Said) (seg : Seg) (phase : Phase) (count check : ℕ) → own_reason m seg k ≡ None → Sound m.course.lines → Sound (kept_by m seg k phase count check).course.lines
+own_keeps : (k : Kind) (m : Said) (seg : Seg) (phase : Phase) (count check : ℕ) → own_reason m seg k ≡ None → Sound m.course.lines m.course.extras
+    → Sound (kept_by m seg k phase count check).course.lines (kept_by m seg k phase count check).course.extras
 unfolding kept_by
 own_keeps kinds.Head m seg phase count check e s = keeps kinds.Head m.course seg phase count check refl s
 own_keeps kinds.Totals m seg phase count check e s = keeps kinds.Totals m.course seg phase count check (both_none _ _ e).0 s
@@ -115,8 +160,8 @@ abbrev end_of : ℕ → List Seg → ℕ
 end_of place [] = place
 end_of place (seg ∷ segs) = end_of (seg.start + length seg.bytes) segs
 
-whole_end : (segs : List Seg) (m : Said) (place : ℕ) (fault : Option SegmentFault) → refusal_from m place segs fault ≡ None → Sound m.course.lines → Sums m.course → place ≤ SET_BYTES
-    → Sound (said_by m segs).course.lines × Sums (said_by m segs).course × (end_of place segs ≤ SET_BYTES)
+whole_end : (segs : List Seg) (m : Said) (place : ℕ) (fault : Option SegmentFault) → refusal_from m place segs fault ≡ None → Sound m.course.lines m.course.extras → Sums m.course → place ≤ SET_BYTES
+    → Sound (said_by m segs).course.lines (said_by m segs).course.extras × Sums (said_by m segs).course × (end_of place segs ≤ SET_BYTES)
 whole_end [] m place fault e s u p = (s, u, p)
 whole_end (seg ∷ segs) m place fault e s u p =
     let n = refused_none (reason_of m seg) seg.start _ e in
@@ -163,12 +208,19 @@ some_head None head e = cc
 abbrev amount_in : Parts → ℕ
 amount_in parts = parts.closed.totals.amount
 
--- the totals of what was read are those that were stated, where the quantity is the sum
+-- the totals of what was read are those that were stated, where they agree with the rows
 totals_end : (m : SoFar) (parts : Parts) → IsClosed m parts.closed → m.totals.quantity ≡ quantities m.lines → (shared_of (record_of parts) (seal_of parts) (amount_in parts)).totals ≡ m.totals
 totals_end m parts c sums =
     let quantity : quantities parts.closed.lines ≡ parts.closed.totals.quantity =
     ap quantities c.lines ∙ sym sums ∙ ap (λ (u : StatedTotals). u.quantity) (sym c.totals) in
     ap (λ (n : ℕ). record { quantity = n; amount = parts.closed.totals.amount; deposit = parts.closed.totals.deposit }) quantity ∙ c.totals
+
+price_end : (m : SoFar) (parts : Parts) → IsClosed m parts.closed → Agree m.totals m.lines m.extras
+    → totals_of parts.closed.lines parts.closed.extras ≡ Ok (record { quantity = quantities parts.closed.lines; amount = amount_in parts })
+price_end m parts c (sums, same, low) =
+    let cents : pos (amount_in parts) ≡ priced parts.closed.lines parts.closed.extras =
+    ap (λ (u : StatedTotals). pos u.amount) c.totals ∙ same ∙ ap (λ (u : List Line). priced u m.extras) (sym c.lines) ∙ ap (λ (u : List Extra). priced parts.closed.lines u) (sym c.extras) in
+    priced_totals parts.closed.lines parts.closed.extras (amount_in parts) (subst (λ (u : StatedTotals). u.amount ≤ MOST_CENTS) (sym c.totals) low) cents
 
 found_rest : (segs : List Seg) (m : Said) (before : List Seg) (place : ℕ) (fault : Option SegmentFault) (parts : Parts) → IsAt before m.course → refusal_from m place segs fault ≡ None
     → IsReadFrom (said_by m segs) parts → Sums (said_by m segs).course
@@ -179,36 +231,50 @@ found_rest [] m before place fault parts at e r u =
     let done = done_is m.course.phase whole.0 in
     let behind : is_behind m.course.phase ≡ true = ap is_behind (sym done) in
     subst (λ (p : Phase). Rest894 p m (record_of parts) (seal_of parts) (amount_in parts) before []) done
-    (sym r.head, ((r.closed.lines, r.closed.control), totals_end m.course parts r.closed (u behind), r.closed.signature, r.closed.check, refl))
+    (sym r.head, ((r.closed.references, r.closed.lines, r.closed.extras, r.closed.control), totals_end m.course parts r.closed (u behind).0, r.closed.signature, r.closed.check, refl))
 found_rest (seg ∷ segs) m before place fault parts at e r u =
     let n = refused_none (reason_of m seg) seg.start _ e in
     let st = stands m seg n.0 in
     let rest = found_rest segs (after m seg) (before ++ seg ∷ []) (seg.start + length seg.bytes) fault parts (at_after m before seg at) n.1 r u in
-    back m (record_of parts) (seal_of parts) (amount_in parts) before seg segs (m.course.count + 1) (crc_from m.course.check seg.bytes) m.course.phase (kind_of forms.Base seg) st.may.plain st.may.moves_on refl st.right at rest
+    back m (record_of parts) (seal_of parts) (amount_in parts) before seg segs (m.course.count + 1) (crc_from m.course.check seg.bytes) m.course.phase (kind_of forms.Base seg) st.may.moves_on refl refl st.right at rest
+
+-- the totals have come where the set is whole
+whole_behind : (segs : List Seg) (m : Said) (place : ℕ) (fault : Option SegmentFault) → refusal_from m place segs fault ≡ None → is_behind (said_by m segs).course.phase ≡ true
+whole_behind [] m place fault e =
+    let whole = and_both _ _ (ended_none _ place fault e).0 in
+    ap is_behind (sym (done_is m.course.phase whole.0))
+whole_behind (seg ∷ segs) m place fault e = whole_behind segs (after m seg) _ fault (refused_none (reason_of m seg) seg.start _ e).1
 
 no_fault : (segs : List Seg) (m : Said) (place : ℕ) (fault : Option SegmentFault) → refusal_from m place segs fault ≡ None → fault ≡ None
 no_fault [] m place fault e = (ended_none _ place fault e).1
 no_fault (seg ∷ segs) m place fault e = no_fault segs (after m seg) _ fault (refused_none (reason_of m seg) seg.start _ e).1
 
--- What is read is a plain base record.
+-- What is read is a base record.
 pub found : (text : List ℕ) (parts : Parts) → refusal_from nothing 0 (cut_of text).segments (cut_of text).fault ≡ None → IsReadFrom (said_by nothing (cut_of text).segments) parts
-    → IsPlain894 (record_of parts) (seal_of parts) (amount_in parts) text
+    → Is894 (record_of parts) (seal_of parts) text
 found text parts e r =
     let segs = (cut_of text).segments in
     let whole : SpellsSegments 0 segs text = spelled_of-cut text segs (ap (λ (f : Option SegmentFault). record { segments = segs; fault = f }) (no_fault segs nothing 0 (cut_of text).fault e)) in
     let none : 0 ≤ MOST_LINES = omega arith in
     let zero_in : 0 ≤ SET_BYTES = omega arith in
-    let ends = whole_end segs nothing 0 (cut_of text).fault e (tt, none) (λ b. cc) zero_in in
+    let ends = whole_end segs nothing 0 (cut_of text).fault e (tt, none, All-nil HasExtras, no_extras false) (λ b. cc) zero_in in
     let rest = found_rest segs nothing [] 0 (cut_of text).fault parts (refl, refl) e r ends.1 in
+    let end : end_of 0 segs ≡ 0 + length text = end_at segs 0 text whole in
     record {
       segments = segs;
       spelled = whole;
-      shape = subst (λ (t : List Line). FromStart t (record_of parts) (seal_of parts) (amount_in parts) [] segs) (sym rest.1) rest.2;
-      sound = record { apart = subst AreApart (sym r.closed.lines) ends.0.0; limit = subst (λ (t : List Line). length t ≤ MOST_LINES) (sym r.closed.lines) ends.0.1 };
-      references = refl;
-      extras = refl;
-      short = omega (arith, end_at segs 0 text whole, ends.2);
+      amount = amount_in parts;
+      price = price_end (said_by nothing segs).course parts r.closed (ends.1 (whole_behind segs nothing 0 (cut_of text).fault e));
+      shape = shaped segs parts rest;
+      sound = subst (λ (t : List Line). IsSound t parts.closed.extras) (sym r.closed.lines) (subst (λ (x : List Extra). IsSound (said_by nothing segs).course.lines x) (sym r.closed.extras) (is_sound _ _ ends.0));
+      short = omega (arith, end, ends.2);
     }
+  where
+    shaped : (segs : List Seg) (parts : Parts) → Rest894 phases.Start nothing (record_of parts) (seal_of parts) (amount_in parts) [] segs → AreSegments (record_of parts) (seal_of parts) (amount_in parts) segs
+    shaped segs parts (texts, lines, extras, (r, l, x), shape) =
+        let one = subst (λ (t : List (List ℕ)). FromStart t lines extras (record_of parts) (seal_of parts) (amount_in parts) [] segs) (sym r) shape in
+        let two = subst (λ (t : List Line). FromStart parts.closed.references.items t extras (record_of parts) (seal_of parts) (amount_in parts) [] segs) (sym l) one in
+        subst (λ (t : List Extra). FromStart parts.closed.references.items parts.closed.lines t (record_of parts) (seal_of parts) (amount_in parts) [] segs) (sym x) two
 
 -- ---- what is the rest of a record stands to the end
 
@@ -221,7 +287,9 @@ none_of m seg kind k a d o =
 pub record IsReadSo (m : Said) (b : BaseRecord) (s : Seal) (amount : ℕ) (place : ℕ) (segs : List Seg) : Type 0 where
   pub none : refusal_from m place segs None ≡ None
   pub head : Some (head_of b) ≡ (said_by m segs).head
+  pub references : b.references ≡ (said_by m segs).course.references
   pub lines : b.lines ≡ (said_by m segs).course.lines
+  pub extras : b.extras ≡ (said_by m segs).course.extras
   pub control : s.control ≡ (said_by m segs).course.control
   pub totals : (shared_of b s amount).totals ≡ (said_by m segs).course.totals
   pub signature : b.signature ≡ (said_by m segs).course.signature
@@ -230,54 +298,78 @@ pub record IsReadSo (m : Said) (b : BaseRecord) (s : Seal) (amount : ℕ) (place
 record IsWhole (from : Phase) (m : Said) (b : BaseRecord) (s : Seal) (amount : ℕ) : Type 0 where
   done : is_done from ≡ true
   head : Some (head_of b) ≡ m.head
-  lines : b.lines ≡ m.course.lines
-  control : s.control ≡ m.course.control
+  read : Read m.course (shared_of b s amount)
   totals : (shared_of b s amount).totals ≡ m.course.totals
   signature : b.signature ≡ m.course.signature
   check : s.check ≡ m.course.integrity
 
 at_end : (from : Phase) (m : Said) (b : BaseRecord) (s : Seal) (amount : ℕ) (before : List Seg) → Rest894 from m b s amount before [] → IsWhole from m b s amount
-at_end phases.Start m b s amount before (lines, l, rest) = absurd rest
-at_end phases.Head m b s amount before (lines, l, c, rest) = absurd rest
-at_end phases.References m b s amount before (h, (line ∷ lines, l, c, (label, rest))) = absurd rest
-at_end phases.References m b s amount before (h, ([], l, c, rest)) = absurd rest
-at_end phases.Body m b s amount before (h, (line ∷ lines, l, c, (label, rest))) = absurd rest
-at_end phases.Body m b s amount before (h, ([], l, c, rest)) = absurd rest
-at_end phases.FirstItem m b s amount before (h, (line, lines, l, c, (extras, rest))) = absurd rest
-at_end phases.Items m b s amount before (h, (line ∷ lines, l, c, (extras, rest))) = absurd rest
-at_end phases.Items m b s amount before (h, ([], l, c, rest)) = absurd rest
-at_end phases.Extras m b s amount before (h, (read, rest)) = absurd rest
+at_end phases.Start m b s amount before (texts, lines, extras, left, rest) = absurd rest
+at_end phases.Head m b s amount before (texts, lines, extras, left, rest) = absurd rest
+at_end phases.References m b s amount before (h, (text ∷ texts, lines, extras, left, rest)) = absurd rest
+at_end phases.References m b s amount before (h, ([], line ∷ lines, extras, left, (label, rest))) = absurd rest
+at_end phases.References m b s amount before (h, ([], [], extra ∷ extras, left, rest)) = absurd rest
+at_end phases.References m b s amount before (h, ([], [], [], left, rest)) = absurd rest
+at_end phases.Body m b s amount before (h, (line ∷ lines, extras, left, (label, rest))) = absurd rest
+at_end phases.Body m b s amount before (h, ([], extra ∷ extras, left, rest)) = absurd rest
+at_end phases.Body m b s amount before (h, ([], [], left, rest)) = absurd rest
+at_end phases.FirstItem m b s amount before (h, (line, lines, extras, left, rest)) = absurd rest
+at_end phases.Items m b s amount before (h, (extra ∷ inside, lines, extras, left, rest)) = absurd rest
+at_end phases.Items m b s amount before (h, ([], line ∷ lines, extras, left, rest)) = absurd rest
+at_end phases.Items m b s amount before (h, ([], [], extras, left, rest)) = absurd rest
+at_end phases.Extras m b s amount before (h, (extra ∷ extras, left, rest)) = absurd rest
+at_end phases.Extras m b s amount before (h, ([], left, rest)) = absurd rest
 at_end phases.Signature m b s amount before (h, (read, totals, rest)) = absurd rest
 at_end phases.Integrity m b s amount before (h, (read, totals, g, rest)) = absurd rest
 at_end phases.Trailer m b s amount before (h, (read, totals, g, i, rest)) = absurd rest
-at_end phases.Done m b s amount before (h, ((l, c), totals, g, i, e)) = record { done = refl; head = h; lines = l; control = c; totals = totals; signature = g; check = i }
+at_end phases.Done m b s amount before (h, (read, totals, g, i, e)) = record { done = refl; head = h; read = read; totals = totals; signature = g; check = i }
 
 not_answer : (p : Phase) (k : Kind) (seg : Seg) → moves (next_phase p k forms.Base) ≡ true → answer_reason p k seg ≡ None
 not_answer phases.Start kinds.Other seg e = cc
 not_answer _ _ seg e = refl
 
-only_rest : (segs : List Seg) (m : Said) (b : BaseRecord) (s : Seal) (amount : ℕ) (before : List Seg) (place : ℕ) → IsSound b.lines → IsAt before m.course → AreShort segs
+only_rest : (segs : List Seg) (m : Said) (b : BaseRecord) (s : Seal) (amount : ℕ) (before : List Seg) (place : ℕ) → IsSound b.lines b.extras → pos amount ≡ priced b.lines b.extras → IsAt before m.course → AreShort segs
     → Rest894 m.course.phase m b s amount before segs → IsReadSo m b s amount place segs
 unfolding kept kept_by
-only_rest [] m b s amount before place sound at short r =
+only_rest [] m b s amount before place sound price at short r =
     let w = at_end m.course.phase m b s amount before r in
-    record { none = none_ended _ place (both_and _ _ w.done (some_head m.head (head_of b) w.head)); head = w.head; lines = w.lines; control = w.control; totals = w.totals; signature = w.signature; check = w.check }
-only_rest (seg ∷ segs) m b s amount before place sound at (here, short) r =
+    record {
+      none = none_ended _ place (both_and _ _ w.done (some_head m.head (head_of b) w.head));
+      head = w.head;
+      references = w.read.0;
+      lines = w.read.1;
+      extras = w.read.2;
+      control = w.read.3;
+      totals = w.totals;
+      signature = w.signature;
+      check = w.check;
+    }
+only_rest (seg ∷ segs) m b s amount before place sound price at (here, short) r =
     let count = m.course.count + 1 in
     let check = crc_from m.course.check seg.bytes in
-    let n = forth m b s amount before seg segs count check sound at m.course.phase r in
+    let n = forth m b s amount before seg segs count check sound price at m.course.phase refl r in
     let k : kind_of forms.Base seg ≡ n.kind = n.goes.0 in
     let right : reason_of m seg ≡ None = none_of m seg n.kind k (not_answer m.course.phase n.kind seg n.moves_on)
-    (admitted forms.Base m.course.phase n.kind seg n.moves_on n.plain here) n.goes.1 in
+    (admitted forms.Base m.course.phase n.kind seg n.moves_on here) n.goes.1 in
     let rest : Rest894 (after m seg).course.phase (after m seg) b s amount (before ++ seg ∷ []) segs =
     subst (λ (kind : Kind). Rest894 (phase_in (next_phase m.course.phase kind forms.Base)) (kept_by m seg kind (phase_in (next_phase m.course.phase kind forms.Base)) count check) b s amount (before ++ seg ∷ []) segs) (sym k) n.goes.2 in
-    let more = only_rest segs (after m seg) b s amount (before ++ seg ∷ []) (seg.start + length seg.bytes) sound (at_after m before seg at) short rest in
-    record { none = none_refused _ seg.start _ right more.none; head = more.head; lines = more.lines; control = more.control; totals = more.totals; signature = more.signature; check = more.check }
+    let more = only_rest segs (after m seg) b s amount (before ++ seg ∷ []) (seg.start + length seg.bytes) sound price (at_after m before seg at) short rest in
+    record {
+      none = none_refused _ seg.start _ right more.none;
+      head = more.head;
+      references = more.references;
+      lines = more.lines;
+      extras = more.extras;
+      control = more.control;
+      totals = more.totals;
+      signature = more.signature;
+      check = more.check;
+    }
 
--- What is a plain base record is read.
-pub only : (text : List ℕ) (b : BaseRecord) (s : Seal) (amount : ℕ) → IsPlain894 b s amount text → IsReadSo nothing b s amount 0 (cut_of text).segments × ((cut_of text).fault ≡ None)
-only text b s amount is =
+-- What is a base record is read.
+pub only : (text : List ℕ) (b : BaseRecord) (s : Seal) (is : Is894 b s text) → IsReadSo nothing b s is.amount 0 (cut_of text).segments × ((cut_of text).fault ≡ None)
+only text b s is =
     let cut = cut_of-spelled text is.segments is.spelled in
     let short : 0 + length text ≤ SET_BYTES = omega (arith, is.short) in
-    let read = only_rest is.segments nothing b s amount [] 0 is.sound (refl, refl) (are_short is.segments 0 text is.spelled short) (b.lines, refl, is.shape) in
-    (subst (λ (c : Cut). IsReadSo nothing b s amount 0 c.segments) (sym cut) read, ap (λ (c : Cut). c.fault) cut)
+    let read = only_rest is.segments nothing b s is.amount [] 0 is.sound (totals_priced b.lines b.extras _ _ is.price) (refl, refl) (are_short is.segments 0 text is.spelled short) (b.references, b.lines, b.extras, (refl, refl, refl), is.shape) in
+    (subst (λ (c : Cut). IsReadSo nothing b s is.amount 0 c.segments) (sym cut) read, ap (λ (c : Cut). c.fault) cut)

@@ -1,11 +1,15 @@
 -- The record that is read is the one that its text spells.
-use Rattle.std.proofs.Common.{◌≡◌, ℕ, List, [], Result, Ok, Err, Some, None, Option, IfOk, refl, sym, ap, ◌∙◌, subst}
+use Rattle.std.proofs.Common.{◌≡◌, ℕ, ◌+◌, length, List, [], ◌∷◌, Result, Ok, Err, Some, None, Option, IfOk, refl, sym, ap, ◌∙◌, subst}
+use Rattle.std.specs.List.{All}
+use Rattle.std.proofs.lemmas.List.Elements.{All-cons, All-nil}
 use Rattle.dsd_values.specs.Calendar.{Date}
 use Rattle.dsd_values.specs.declared.extra.Extra.{Extra}
 use Rattle.dsd_values.specs.declared.flag.Flag.{Flag}
 use Rattle.dsd_values.specs.declared.line.Line.{Line}
 use Rattle.dsd_values.specs.declared.signature.Signature.{Signature}
+use Rattle.segments.specs.Views.{Seg}
 use Rattle.segments.specs.SegmentCut.{cut_of}
+use Rattle.segments.specs.SegmentSpelling.{SpellsSegments}
 use Rattle.segments.specs.Refusal.{Answers, Refusal}
 use Rattle.segments.specs.declared.segment_fault.SegmentFault.{SegmentFault}
 use Rattle.segments.specs.declared.set_fault.SetFault.{SetFault}
@@ -14,7 +18,7 @@ use Rattle.segments.specs.declared.seal.Seal.{Seal}
 use Rattle.segments.specs.declared.stated.StatedTotals.{StatedTotals}
 use Rattle.base_record_894.specs.BaseRecord.{BaseRecord}
 use Rattle.base_record_894.specs.Grammar.{shared_of}
-use Rattle.base_record_894.specs.PlainText.{IsPlain894, IsSpelled}
+use Rattle.base_record_894.specs.RecordText.{Is894, IsBase, IsLongSegment}
 use Rattle.base_record_894.specs.Said.{nothing}
 use Rattle.base_record_894.specs.FirstRefusal.{refusal_of, refusal_from}
 use Rattle.base_record_894.specs.ReadParts.{said_by, IsReadFrom, record_of, seal_of}
@@ -45,18 +49,17 @@ same_record a b e1 e2 e3 e4 e5 e6 e7 e8 e9 e10 e11 e12 e13 =
 same_seal : (a b : Seal) → a.control ≡ b.control → a.check ≡ b.check → a ≡ b
 same_seal a b c e = ap (λ (v : List ℕ). record { control = v; check = a.check }) c ∙ ap (λ (v : ℕ). record { control = b.control; check = v }) e
 
-pub record IsSame (parts : Parts) (b : BaseRecord) (s : Seal) (amount : ℕ) : Type 0 where
+pub record IsSame (parts : Parts) (b : BaseRecord) (s : Seal) : Type 0 where
   pub base : record_of parts ≡ b
   pub seal : seal_of parts ≡ s
-  pub stated : parts.closed.totals.amount ≡ amount
 
 -- what was read of a text that spells a record is that record
-pub same_read : (text : List ℕ) (parts : Parts) (b : BaseRecord) (s : Seal) (amount : ℕ) → IsPlain894 b s amount text → IsReadFrom (said_by nothing (cut_of text).segments) parts → IsSame parts b s amount
-same_read text parts b s amount is r =
-    let o = (only text b s amount is).0 in
+pub same_read : (text : List ℕ) (parts : Parts) (b : BaseRecord) (s : Seal) → Is894 b s text → IsReadFrom (said_by nothing (cut_of text).segments) parts → IsSame parts b s
+same_read text parts b s is r =
+    let o = (only text b s is).0 in
     let some : Some parts.head ≡ Some (head_of b) = sym (o.head ∙ r.head) in
     let head : parts.head ≡ head_of b = cc (some) in
-    let totals : parts.closed.totals ≡ (shared_of b s amount).totals = r.closed.totals ∙ sym o.totals in
+    let totals : parts.closed.totals ≡ (shared_of b s is.amount).totals = r.closed.totals ∙ sym o.totals in
     record {
       base = same_record (record_of parts) b
           (ap (λ (h : Head). h.flag) head)
@@ -67,35 +70,51 @@ same_read text parts b s amount is r =
           (ap (λ (h : Head). h.supplier_duns) head)
           (ap (λ (h : Head). h.supplier_place) head)
           (ap (λ (h : Head). h.tail) head)
-          (sym is.references) (r.closed.lines ∙ sym o.lines) (sym is.extras)
+          (r.closed.references ∙ sym o.references) (r.closed.lines ∙ sym o.lines) (r.closed.extras ∙ sym o.extras)
           (ap (λ (t : StatedTotals). t.deposit) totals) (r.closed.signature ∙ sym o.signature);
       seal = same_seal (seal_of parts) s (r.closed.control ∙ sym o.control) (r.closed.check ∙ sym o.check);
-      stated = ap (λ (t : StatedTotals). t.amount) totals;
     }
 
 -- a text that spells a record has no refusal
-pub not_refused : (text : List ℕ) (b : BaseRecord) (s : Seal) (amount : ℕ) → IsPlain894 b s amount text → refusal_of text ≡ None
-not_refused text b s amount is =
-    let o = only text b s amount is in
+pub not_refused : (text : List ℕ) (b : BaseRecord) (s : Seal) → Is894 b s text → refusal_of text ≡ None
+not_refused text b s is =
+    let o = only text b s is in
     ap (λ (f : Option SegmentFault). refusal_from nothing 0 (cut_of text).segments f) o.1 ∙ o.0.none
 
 -- the answers of a call that was refused
-pub only_err : {X Y : Type 0} (text : List ℕ) (e : SetFault) (r : Result X SetFault) (b : BaseRecord) (s : Seal) (amount : ℕ) (P : Y → Type 0) (Q : X → Type 0) → r ≡ Err e → Answers (Err e) (refusal_of text) P
-    → IsPlain894 b s amount text → Answers r None Q
-only_err text errors.Memory r b s amount P Q same a is = subst (λ (u : _). Answers u None Q) (sym same) tt
-only_err text (errors.Refused place reason) r b s amount P Q same a is = subst (λ (u : _). Answers u None Q) (sym same) (sym (not_refused text b s amount is) ∙ a)
+pub only_err : {X Y : Type 0} (text : List ℕ) (e : SetFault) (r : Result X SetFault) (b : BaseRecord) (s : Seal) (P : Y → Type 0) (Q : X → Type 0) → r ≡ Err e → Answers (Err e) (refusal_of text) P
+    → Is894 b s text → Answers r None Q
+only_err text errors.Memory r b s P Q same a is = subst (λ (u : _). Answers u None Q) (sym same) tt
+only_err text (errors.Refused place reason) r b s P Q same a is = subst (λ (u : _). Answers u None Q) (sym same) (sym (not_refused text b s is) ∙ a)
 
-pub spelled : (text : List ℕ) (parts : Parts) → refusal_of text ≡ None → IsReadFrom (said_by nothing (cut_of text).segments) parts → IsSpelled (record_of parts)
-spelled text parts e r = (seal_of parts, parts.closed.totals.amount, text, found text parts e r)
+-- the segments of a text are segments, lengths aside
+long_ones : (segs : List Seg) (place : ℕ) (text : List ℕ) → SpellsSegments place segs text → All IsLongSegment segs
+long_ones [] place text e = All-nil IsLongSegment
+long_ones (seg ∷ segs) place text (is, start, (rest, joined, more)) =
+    All-cons IsLongSegment seg segs (record { segment = is.segment; spelled = is.spelled }) (long_ones segs (place + length seg.bytes) rest more)
+
+pub is_base : (text : List ℕ) (b : BaseRecord) (s : Seal) → Is894 b s text → IsBase b
+is_base text b s is = record {
+  seal = s;
+  segments = is.segments;
+  spelled = long_ones is.segments 0 text is.spelled;
+  amount = is.amount;
+  price = is.price;
+  shape = is.shape;
+  sound = is.sound;
+}
+
+pub spelled : (text : List ℕ) (parts : Parts) → refusal_of text ≡ None → IsReadFrom (said_by nothing (cut_of text).segments) parts → IsBase (record_of parts)
+spelled text parts e r = is_base text (record_of parts) (seal_of parts) (found text parts e r)
 
 -- two records of one text are one
-pub one : (text : List ℕ) (a b : BaseRecord) (s t : Seal) (m n : ℕ) → IsPlain894 a s m text → IsPlain894 b t n text → (a ≡ b) × (s ≡ t) × (m ≡ n)
-one text a b s t m n is also =
-    let o = (only text a s m is).0 in
-    let p = (only text b t n also).0 in
+pub one : (text : List ℕ) (a b : BaseRecord) (s t : Seal) → Is894 a s text → Is894 b t text → (a ≡ b) × (s ≡ t)
+one text a b s t is also =
+    let o = (only text a s is).0 in
+    let p = (only text b t also).0 in
     let some : Some (head_of a) ≡ Some (head_of b) = o.head ∙ sym p.head in
     let head : head_of a ≡ head_of b = cc (some) in
-    let totals : (shared_of a s m).totals ≡ (shared_of b t n).totals = o.totals ∙ sym p.totals in (
+    let totals : (shared_of a s is.amount).totals ≡ (shared_of b t also.amount).totals = o.totals ∙ sym p.totals in (
       same_record a b
           (ap (λ (h : Head). h.flag) head)
           (ap (λ (h : Head). h.number) head)
@@ -105,21 +124,12 @@ one text a b s t m n is also =
           (ap (λ (h : Head). h.supplier_duns) head)
           (ap (λ (h : Head). h.supplier_place) head)
           (ap (λ (h : Head). h.tail) head)
-          (is.references ∙ sym also.references) (o.lines ∙ sym p.lines) (is.extras ∙ sym also.extras)
+          (o.references ∙ sym p.references) (o.lines ∙ sym p.lines) (o.extras ∙ sym p.extras)
           (ap (λ (u : StatedTotals). u.deposit) totals) (o.signature ∙ sym p.signature),
       same_seal s t (o.control ∙ sym p.control) (o.check ∙ sym p.check),
-      ap (λ (u : StatedTotals). u.amount) totals,
     )
 
-pub found_as : (text : List ℕ) (parts : Parts) (b : BaseRecord) (s : Seal) (amount : ℕ) → b ≡ record_of parts → s ≡ seal_of parts → amount ≡ parts.closed.totals.amount
-    → refusal_of text ≡ None → IsReadFrom (said_by nothing (cut_of text).segments) parts → IsPlain894 b s amount text
-found_as text parts b s amount eb es ea e r =
-    let one = found text parts e r in
-    let two = subst (λ (u : BaseRecord). IsPlain894 u (seal_of parts) parts.closed.totals.amount text) (sym eb) one in
-    let three = subst (λ (u : Seal). IsPlain894 b u parts.closed.totals.amount text) (sym es) two in
-    subst (λ (u : ℕ). IsPlain894 b s u text) (sym ea) three
-
--- an error is passed on
-pub err_on : {X Y : Type 0} (e : SetFault) (r : Result X SetFault) (refused : Option Refusal) (P : Y → Type 0) (Q : X → Type 0) → r ≡ Err e → Answers (Err e) refused P → Answers r refused Q
-err_on errors.Memory r refused P Q same a = subst (λ (u : _). Answers u refused Q) (sym same) tt
-err_on (errors.Refused place reason) r refused P Q same a = subst (λ (u : _). Answers u refused Q) (sym same) a
+pub found_as : (text : List ℕ) (parts : Parts) (b : BaseRecord) (s : Seal) → b ≡ record_of parts → s ≡ seal_of parts
+    → refusal_of text ≡ None → IsReadFrom (said_by nothing (cut_of text).segments) parts → Is894 b s text
+found_as text parts b s eb es e r =
+    subst (λ (u : Seal). Is894 b u text) (sym es) (subst (λ (u : BaseRecord). Is894 u (seal_of parts) text) (sym eb) (found text parts e r))

@@ -1,5 +1,6 @@
 -- What a base record is: the value that a set 894 spells.
-use Rattle.std.specs.Prelude.{ℕ, List, Option}
+use Rattle.std.specs.Prelude.{ℕ, List, Option, unsigned_abs}
+use Rattle.dsd_pricing.specs.Pricing.{priced}
 use Rattle.dsd_values.specs.Calendar.{Date}
 use Rattle.dsd_values.specs.declared.extra.Extra.{Extra}
 use Rattle.dsd_values.specs.declared.flag.Flag.{Flag}
@@ -20,3 +21,7 @@ pub record BaseRecord : Type 0 where
   pub extras : List Extra
   pub deposit : Option ℕ
   pub signature : Signature
+
+-- the amount of a record in cents: what its rows come to, which is not below 0 in any record
+abbrev pub amount_of : BaseRecord → ℕ
+amount_of base = unsigned_abs (priced base.lines base.extras)

@@ -1,6 +1,6 @@
 -- Which texts are a base record, of which value: a relation, apart from any reading.
-use Rattle.std.specs.Prelude.{◌≡◌, ◌≤◌, ℕ, pos, List, length, All}
-use Rattle.dsd_pricing.specs.Pricing.{priced}
+use Rattle.std.specs.Prelude.{◌≡◌, ◌≤◌, ℕ, List, length, All, Ok}
+use Rattle.dsd_pricing.specs.Pricing.{quantities, totals_of}
 use Rattle.dsd_values.specs.declared.limits.TheConstants.{SET_BYTES}
 use Rattle.segments.specs.Views.{Seg}
 use Rattle.segments.specs.SegmentSpelling.{IsSegment, Spells, SpellsSegments}
@@ -9,13 +9,13 @@ use Rattle.segments.specs.declared.seal.Seal.{Seal}
 use Rattle.base_record_894.specs.BaseRecord.{BaseRecord}
 use Rattle.base_record_894.specs.Grammar.{AreSegments}
 
--- The text is segments in the order of a base record, each of which says its part of this record; it states the amount that the
--- rows come to, and is sealed so.
+-- The text is segments in the order of a base record, each of which says its part of this record; it states the quantity and the
+-- amount that the rows come to, and is sealed so.
 pub record Is894 (base : BaseRecord) (seal : Seal) (text : List ℕ) : Type 0 where
   pub segments : List Seg
   pub spelled : SpellsSegments 0 segments text
   pub amount : ℕ
-  pub price : pos amount ≡ priced base.lines base.extras
+  pub price : totals_of base.lines base.extras ≡ Ok (record { quantity = quantities base.lines; amount = amount })
   pub shape : AreSegments base seal amount segments
   pub sound : IsSound base.lines base.extras
   pub short : length text ≤ SET_BYTES
@@ -31,6 +31,6 @@ pub record IsBase (base : BaseRecord) : Type 0 where
   pub segments : List Seg
   pub spelled : All IsLongSegment segments
   pub amount : ℕ
-  pub price : pos amount ≡ priced base.lines base.extras
+  pub price : totals_of base.lines base.extras ≡ Ok (record { quantity = quantities base.lines; amount = amount })
   pub shape : AreSegments base seal amount segments
   pub sound : IsSound base.lines base.extras

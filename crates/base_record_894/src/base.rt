@@ -2,6 +2,7 @@
 
 ghost use Rattle.std.specs.Prelude.{◌≡◌, IfOk, pos};
 ghost use Rattle.dsd_pricing.specs.Pricing.{priced, quantities as sum_of_quantities};
+ghost use Rattle.base_record_894.specs.BaseRecord.{amount_of as cents_of_rows};
 ghost use Rattle.base_record_894.specs.ReadParts.{record_of, seal_of};
 ghost use Rattle.base_record_894.specs.RecordText.{IsBase};
 
@@ -135,7 +136,8 @@ impl Base {
 
     /// What the rows come to.
     pub fn amount(&self) -> Cents
-        ensures { pos result ≡ priced self.now.lines self.now.extras }
+        ensures value { result ≡ cents_of_rows self.now }
+        ensures price { pos result ≡ priced self.now.lines self.now.extras }
     {
         match amount_of(self.lines.as_slice(), self.extras.as_slice()) {
             Ok(totals) => totals.amount,

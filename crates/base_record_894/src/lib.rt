@@ -2,17 +2,17 @@
 #![tactic(auto)]
 
 mod base;
+mod from_text;
 mod head;
 pub mod laws;
 mod notes;
 mod parts;
 mod reader;
-mod reading;
 mod rows;
 
 pub use base::Base;
+pub use from_text::read_894;
 pub use notes::Notes;
-pub use reading::read_894;
 
 #[cfg(test)]
 mod tests;

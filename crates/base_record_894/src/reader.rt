@@ -3,7 +3,7 @@
 ghost use Rattle.std.specs.Prelude.{◌≡◌, ℕ, ◌+◌, ◌<◌, ◌≤◌, List, [], ◌∷◌, length, IfOk, OnOk, None, Some};
 ghost use Rattle.segments.specs.Reasons.{Says};
 ghost use Rattle.segments.specs.Refusal.{Answers, ended_at};
-ghost use Rattle.base_record_894.specs.Said.{nothing, answer_reason, own_reason, reason_of, kept_by, after, is_whole};
+ghost use Rattle.base_record_894.specs.Said.{nothing, answer_reason, own_reason, reason_of, rows_reason, kept_by, after, is_whole};
 ghost use Rattle.base_record_894.specs.ReadParts.{IsReadFrom};
 ghost use Rattle.segments.specs.declared.kind.Kind.TheVariants as kinds;
 
@@ -93,6 +93,13 @@ impl Reader {
             (λ _. self.new ≡ kept_by self.old segment.now kinds.Totals self.old.course.phase self.old.course.count self.old.course.check) }
     {
         self.course.keep(Kind::Totals, segment)?;
+        self.compare_totals(segment)
+    }
+
+    /// Refuses stated totals that are not those of the rows.
+    fn compare_totals(&self, segment: &Segment<'_>) -> Result<(), SetFault>
+        ensures { Says result segment.now.start (rows_reason self.now.course.totals self.now.course.lines self.now.course.extras) (λ _. Unit {0}) }
+    {
         let course = &self.course;
         compare_totals(segment, course.totals(), course.lines(), course.extras())
     }

@@ -16,21 +16,11 @@ fn reads_a_delivery(rt: HostRuntime) -> Result<(), Fail> {
     assert_eq!(rt; base.day().year(), 2024);
     assert_eq!(rt; base.lines().as_slice().len(), 2);
     assert_eq!(rt; base.quantity(), 15);
+    assert_eq!(rt; base.amount().get(), 1600);
     assert!(rt; base.deposit().is_none());
     assert_eq!(rt; base.signature().mark.as_slice(), b"JONES".as_slice());
     assert_eq!(rt; seal.control.as_slice(), b"0001".as_slice());
     assert_eq!(rt; seal.check.get(), 0xC60A);
-    Ok(())
-}
-
-#[test]
-fn reads_the_amount(rt: HostRuntime) -> Result<(), Fail> {
-    let Ok((base, seal, amount)) = read_plain_894(rt.alloc(), DELIVERY) else {
-        return Err(Fail::from("refused"));
-    };
-    assert_eq!(rt; base.quantity(), 15);
-    assert_eq!(rt; seal.check.get(), 0xC60A);
-    assert_eq!(rt; amount.get(), 1600);
     Ok(())
 }
 

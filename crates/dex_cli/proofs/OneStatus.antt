@@ -1,6 +1,6 @@
 -- Words and bytes leave one status.
 use Rattle.std.proofs.Common.{◌≡◌, ◌≢◌, ℕ, ◌+◌, ◌<◌, ◌≤◌, ◌⊎◌, inl, inr, List, [], ◌∷◌, ◌++◌, length, Option, Some, None, refl, sym, ap, ◌∙◌, subst, arith, append-nil, length-append, if◌then◌else◌}
-use Rattle.base_record_894.specs.PlainText.{IsPlain894}
+use Rattle.base_record_894.specs.RecordText.{Is894}
 use Rattle.dex_cli.specs.Words.{words_of}
 use Rattle.dex_cli.specs.Answers.{IsInput, IsTooLong, IsRefused, ChecksSet, Answered, ChecksLine, Read, IsJobs, MayAnswer, has_refused, status_of}
 use Rattle.dex_cli.specs.declared.answer.Answer.{Answer}
@@ -29,7 +29,7 @@ apart left after after' input input' place reason summary one other (inl long) (
     absurd (omega (arith, ap length whole, ap length front, length-append input after, above, short))
 apart left after after' input input' place reason summary one other (inr refused) (short, is) =
     let same : input' ≡ input = sym (all_left left after' input' other short) ∙ all_left left after input one refused.short in
-    refused.none summary.base summary.seal summary.amount (subst (λ (t : List ℕ). IsPlain894 summary.base summary.seal summary.amount t) same is)
+    refused.none summary.base summary.seal (subst (λ (t : List ℕ). Is894 summary.base summary.seal t) same is)
 
 -- one input is not both captured bytes and too long for them
 captured_apart : (left after after' input input' : List ℕ) (place : ℕ) (reason : SetReason) → IsInput (Some left) (Some after) input → IsInput (Some left) (Some after') input'

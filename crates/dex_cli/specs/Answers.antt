@@ -8,7 +8,7 @@ use Rattle.segments.specs.declared.seal.Seal.{Seal}
 use Rattle.segments.specs.declared.set_fault.SetReason.{SetReason}
 use Rattle.segments.specs.declared.set_fault.SetReason.TheVariants as reasons
 use Rattle.base_record_894.specs.BaseRecord.{BaseRecord}
-use Rattle.base_record_894.specs.PlainText.{IsPlain894}
+use Rattle.base_record_894.specs.RecordText.{Is894}
 use Rattle.base_record_894.specs.FirstRefusal.{refusal_of}
 use Rattle.dex_cli.specs.Words.{words_of}
 use Rattle.dex_cli.specs.declared.answer.Answer.{Answer}
@@ -34,7 +34,7 @@ pub record IsTooLong (input : List ℕ) (place : ℕ) (reason : SetReason) : Typ
 pub record IsRefused (input : List ℕ) (place : ℕ) (reason : SetReason) : Type 0 where
   pub short : length input ≤ INPUT_BYTES
   pub first : refusal_of input ≡ Some (record { place = place; reason = reason })
-  pub none : (base : BaseRecord) (seal : Seal) (amount : ℕ) → IsPlain894 base seal amount input → ⊥
+  pub none : (base : BaseRecord) (seal : Seal) → Is894 base seal input → ⊥
   pub within : place ≤ length input
 
 -- What `check set` answers to an input.
@@ -42,7 +42,7 @@ abbrev pub ChecksSet : List ℕ → Answer → Type 0
 ChecksSet input answers.Words = ⊥
 ChecksSet input answers.SourceFault = ⊥
 ChecksSet input (answers.Refused place reason) = IsTooLong input place reason ⊎ IsRefused input place reason
-ChecksSet input (answers.Set summary) = (length input ≤ INPUT_BYTES) × IsPlain894 summary.base summary.seal summary.amount input
+ChecksSet input (answers.Set summary) = (length input ≤ INPUT_BYTES) × Is894 summary.base summary.seal input
 ChecksSet input (answers.Line captured) = ⊥
 
 -- What `check line` answers to an input: its frames are found when they are printed.

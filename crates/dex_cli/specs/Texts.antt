@@ -13,7 +13,8 @@ use Rattle.segments.specs.declared.segment_fault.SegmentFault.{SegmentFault}
 use Rattle.segments.specs.declared.segment_fault.SegmentFault.TheVariants as segment_faults
 use Rattle.segments.specs.declared.set_fault.SetReason.{SetReason}
 use Rattle.segments.specs.declared.set_fault.SetReason.TheVariants as reasons
-use Rattle.base_record_894.specs.BaseRecord.{BaseRecord, quantities}
+use Rattle.base_record_894.specs.BaseRecord.{BaseRecord, amount_of}
+use Rattle.dsd_pricing.specs.Pricing.{quantities}
 use Rattle.dex_cli.specs.declared.answer.Answer.{Answer}
 use Rattle.dex_cli.specs.declared.answer.Answer.TheVariants as answers
 use Rattle.dex_cli.specs.declared.summary.SetSummary.{SetSummary}
@@ -35,14 +36,14 @@ flag_text flags.Credit = codes "C"
 abbrev pub delivery_text : BaseRecord → List ℕ
 delivery_text base = both (codes "DELIVERY") (both (flag_text base.flag) (both base.number (day_text base.day)))
 
--- control number, delivery, number of lines, sum of the quantities, and the amount as it is said
+-- control number, delivery, number of lines, sum of the quantities, and the amount
 unfoldable pub summary_text : SetSummary → List ℕ
 summary_text summary =
     line (both (codes "SET 894") summary.seal.control)
     ++ line (delivery_text summary.base)
     ++ line (both (codes "LINES") (decimal (length summary.base.lines)))
     ++ line (both (codes "QUANTITY") (decimal (quantities summary.base.lines)))
-    ++ line (both (codes "AMOUNT") (decimal summary.amount))
+    ++ line (both (codes "AMOUNT") (decimal (amount_of summary.base)))
     ++ line (codes "OK")
 
 -- ---- reasons

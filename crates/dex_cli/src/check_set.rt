@@ -6,7 +6,7 @@ ghost use Rattle.dex_cli.specs.Answers.{ChecksSet};
 use crate::answer::Answer;
 use crate::job::INPUT_BYTES;
 use crate::summary::SetSummary;
-use base_record_894::read_plain_894;
+use base_record_894::read_894;
 use segments::{SetFault, SetReason};
 use std::alloc::{AllocError, Global};
 
@@ -20,8 +20,8 @@ pub fn check_set(alloc: Global, input: &[u8]) -> Result<Answer, AllocError>
             reason: SetReason::Limit,
         });
     }
-    match read_plain_894(alloc, input) {
-        Ok((base, seal, amount)) => Ok(Answer::Set(SetSummary { base, seal, amount })),
+    match read_894(alloc, input) {
+        Ok((base, seal)) => Ok(Answer::Set(SetSummary { base, seal })),
         Err(SetFault::Refused { place, reason }) => Ok(Answer::Refused { place, reason }),
         Err(SetFault::Memory) => Err(AllocError),
     }

@@ -6,16 +6,15 @@ ghost use Rattle.dex_cli.specs.Texts.{line, both, flag_text, delivery_text, summ
 
 use crate::report::{put, put_bytes, put_count, put_pair};
 use base_record_894::Base;
-use dsd_values::{Cents, Flag, write_day};
+use dsd_values::{Flag, write_day};
 use segments::Seal;
 use std::alloc::{AllocError, Global};
 
-/// A base record that was read, with its seal and the amount as it is said.
+/// A base record that was read, with its seal.
 #[derive(Debug, Drop)]
 pub struct SetSummary {
     pub base: Base,
     pub seal: Seal,
-    pub amount: Cents,
 }
 
 fn flag(flag: Flag) -> &'static [u8]
@@ -44,11 +43,11 @@ fn put_delivery(out: &mut Vec<u8>, base: &Base) -> Result<(), AllocError>
 pub fn put_summary(alloc: Global, out: &mut Vec<u8>, summary: &SetSummary) -> Result<(), AllocError>
     ensures { OnOk result (out.new.items ≡ out.old.items ++ summary_text summary.now) }
 {
-    let SetSummary { base, seal, amount } = summary;
+    let SetSummary { base, seal } = summary;
     put_pair(out, "SET 894", seal.control.as_slice())?;
     put_delivery(out, base)?;
     put_count(alloc, out, "LINES", base.lines().as_slice().len() as u64)?;
     put_count(alloc, out, "QUANTITY", u64::from(base.quantity()))?;
-    put_count(alloc, out, "AMOUNT", amount.get())?;
+    put_count(alloc, out, "AMOUNT", base.amount().get())?;
     put(out, "OK\n")
 }

@@ -1,10 +1,9 @@
 -- The frames of captured bytes: there is one such list, and it is what a scanner answers.
-use Rattle.std.proofs.Common.{◌≡◌, ◌⊎◌, ℕ, ◌+◌, ◌≤◌, Bool, true, false, Some, None, Option, List, [], ◌∷◌, ◌++◌, length, take, drop, refl, sym, ◌∙◌, ap, subst, inl, inr, arith, append_assoc, append-nil}
+use Rattle.std.proofs.Common.{◌≡◌, ◌⊎◌, ℕ, ◌+◌, Bool, true, false, Some, None, Option, List, [], ◌∷◌, ◌++◌, length, drop, refl, sym, ◌∙◌, ap, subst, inl, inr, append_assoc, append-nil}
 use Rattle.std.specs.Prelude.{◌≢◌, if◌then◌else◌}
-use Rattle.std.proofs.lemmas.List.{take_all, take-append-drop, length-take-le}
 use Rattle.dex_line.specs.FrameShapes.{FrameShape, Enq, Ack0, Ack1, Nak, Eot, Header, Block, Damaged, Bad}
-use Rattle.dex_line.specs.FrameSpelling.{IsBegun, IsNoFrame, Answers, Spelled, spelling}
-use Rattle.dex_line.specs.Hearing.{IsAnswered, HeardAs, Hearing, hear_all, hearing, nothing_heard}
+use Rattle.dex_line.specs.FrameSpelling.{IsBegun, IsNoFrame, Spelled, spelling}
+use Rattle.dex_line.specs.Hearing.{IsAnswered, HeardAs, hear_all, nothing_heard}
 use Rattle.dex_line.specs.Scanning.{quieted}
 use Rattle.dex_line.specs.Captured.{BeginsWith, BeginsNone, IsFirstFrame, FramesIn, is_refused, left_behind, with_places, and_quiet, frames_from, IsFrameOfSize}
 use Rattle.dex_line.proofs.Told.{one_frame, no_front, judged_whole}
@@ -198,75 +197,3 @@ frames_next place size bytes shape f =
     let after : List ℕ = drop size bytes in
     frames_step place bytes shape (left_behind shape after) f.first
     ∙ ap (λ l. (place, shape) ∷ l) (same_after (is_refused shape) (place + length (spelling shape)) (place + size) after (λ n. ap (λ m. place + m) (sym (f.counts n))))
-
--- ---- what a scanner that hears the bytes one after another has found
-
--- an answer that is not refused is spelled by the bytes
-said_piece : (shape : FrameShape) (piece : List ℕ) → is_refused shape ≡ false → Answers piece (Some shape)
-    → piece ≡ spelling shape
-said_piece Enq piece fine a = a.1
-said_piece Ack0 piece fine a = a.1
-said_piece Ack1 piece fine a = a.1
-said_piece Nak piece fine a = a.1
-said_piece Eot piece fine a = a.1
-said_piece (Header text) piece fine a = a.1
-said_piece (Block last text) piece fine a = a.1
-said_piece Damaged piece fine a = absurd (cc)
-said_piece Bad piece fine a = absurd (cc)
-
--- the pieces that were heard
-pieces_of : (bytes begun : List ℕ) (shapes : List FrameShape) → hear_all nothing_heard bytes ≡ hearing begun shapes
-    → HeardAs bytes shapes begun
-pieces_of bytes begun shapes heard =
-    subst (λ (h : Hearing). HeardAs bytes h.shapes h.begun) heard (heard_frames bytes)
-
--- so many bytes were answered by one frame
-pub frame_heard : (bytes begun : List ℕ) (size : ℕ) (shape : FrameShape) → size ≤ length bytes
-    → hear_all nothing_heard (take size bytes) ≡ hearing begun (shape ∷ []) → begun ≡ []
-    → IsFrameOfSize shape bytes size
-frame_heard bytes begun size shape inside heard none =
-    let (piece, after, answered, same, (ends, begins)) = pieces_of (take size bytes) begun (shape ∷ []) heard in
-    let whole : take size bytes ≡ piece = same ∙ ap (λ l. piece ++ l) (ends ∙ none) ∙ append-nil piece in
-    let taken : length (take size bytes) ≡ size = length-take-le size bytes inside in
-    let split : piece ++ drop size bytes ≡ bytes = ap (λ l. l ++ drop size bytes) (sym whole) ∙ take-append-drop size bytes in
-    record {
-      inside = inside;
-      first = subst (λ l. IsFirstFrame shape l (left_behind shape (drop size bytes))) split (first_answered shape piece (drop size bytes) answered);
-      counts = λ fine. sym taken ∙ ap length (whole ∙ said_piece shape piece fine answered.answer);
-    }
-
--- all bytes were heard without an answer
-begun_all : (bytes begun : List ℕ) (size : ℕ) → size ≡ length bytes
-    → hear_all nothing_heard (take size bytes) ≡ hearing begun [] → (bytes ≡ begun) × IsBegun begun
-begun_all bytes begun size all heard =
-    let pieces = pieces_of (take size bytes) begun [] heard in
-    let whole : take size bytes ≡ bytes = take_all size bytes (omega arith) in
-    (sym whole ∙ pieces.0, pieces.1)
-
--- the answer to a silence
-is_bad : (begun : List ℕ) (shape : FrameShape) → Some shape ≡ quieted begun → (shape ≡ Bad) × (begun ≢ [])
-is_bad [] shape e = absurd (cc)
-is_bad (b ∷ begun) shape e = (cc, λ none. cc)
-
--- and then a silence was heard
-pub open_heard : (bytes begun : List ℕ) (size : ℕ) (shape : FrameShape) → size ≡ length bytes
-    → hear_all nothing_heard (take size bytes) ≡ hearing begun [] → Some shape ≡ quieted begun
-    → IsFrameOfSize shape bytes size
-open_heard bytes begun size shape all heard quiet =
-    let bad = is_bad begun shape quiet in
-    let (whole, begins) = begun_all bytes begun size all heard in
-    let first : IsFirstFrame Bad bytes [] = subst (λ l. IsFirstFrame Bad l []) (sym whole) (first_open begun begins bad.1) in
-    record {
-      inside = omega arith;
-      first = subst (λ f. IsFirstFrame f bytes (left_behind f (drop size bytes))) (sym bad.0) first;
-      counts = λ fine. absurd (let clash : is_refused Bad ≡ false = ap is_refused (sym bad.0) ∙ fine in cc);
-    }
-
-nothing_left : (begun : List ℕ) → None ≡ quieted begun → begun ≡ []
-nothing_left [] quiet = refl
-nothing_left (b ∷ begun) quiet = absurd (cc)
-
--- bytes that had no answer, nor the silence behind them, are none
-pub none_heard : (bytes begun : List ℕ) (size : ℕ) → size ≡ length bytes
-    → hear_all nothing_heard (take size bytes) ≡ hearing begun [] → None ≡ quieted begun → bytes ≡ []
-none_heard bytes begun size all heard quiet = (begun_all bytes begun size all heard).0 ∙ nothing_left begun quiet

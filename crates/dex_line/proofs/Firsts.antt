@@ -2,8 +2,7 @@
 use Rattle.std.proofs.Common.{◌≡◌, ◌⊎◌, ℕ, ◌+◌, ◌<◌, ◌≤◌, Bool, true, false, List, [], ◌∷◌, ◌++◌, length, take, drop, Option, Some, None, refl, sym, ◌∙◌, ap, subst, inl, inr, arith, append_assoc, length-append, ◌&&◌, ◌==◌, nat_lt}
 use Rattle.std.specs.Prelude.{if◌then◌else◌, nat_le, MatchOption}
 use Rattle.std.specs.List.{list_all, position_or_len}
-use Rattle.std.proofs.Math.Seq.{take-add, take-append_seam, drop-append_seam}
-use Rattle.std.proofs.lemmas.List.Folds.{list_all-append}
+use Rattle.std.proofs.Math.Seq.{take-append_seam, drop-append_seam}
 use Rattle.std.proofs.lemmas.Bool.Decides.{nat_tests}
 use Rattle.std.proofs.lemmas.List.{take-append-drop, length-take-le}
 use Rattle.dex_line.specs.Bytes.{is_no_text, is_text}
@@ -288,34 +287,3 @@ pub first_found : (answer : Option (Captured × ℕ)) (bytes : List ℕ) → som
 first_found None bytes e = subst (λ f. StandsSome f bytes) (sym e) (stands bytes)
 first_found (Some x) bytes e =
     read_is (captured_seen x.0) x.1 bytes (sym e) (subst (λ f. StandsSome f bytes) (sym e) (stands bytes))
-
--- ---- many bytes of text at once
-
--- behind text bytes the rest counts
-text_behind : (text more : List ℕ) → list_all is_text text ≡ true
-    → position_or_len is_no_text (text ++ more) ≡ length text + position_or_len is_no_text more
-text_behind [] more all = omega arith
-text_behind (b ∷ text) more all =
-    let on : list_all is_text text ≡ true = grind (arith, nat_tests) in
-    let is : is_text b ≡ true = grind (arith, nat_tests) in
-    let e = text_behind text more on in
-    grind (arith, nat_tests)
-
-pub text_parted : (bytes : List ℕ) (size : ℕ) → size ≤ length bytes → list_all is_text (take size bytes) ≡ true
-    → size + position_or_len is_no_text (drop size bytes) ≡ position_or_len is_no_text bytes
-text_parted bytes size inside all =
-    ap (λ n. n + position_or_len is_no_text (drop size bytes)) (sym (length-take-le size bytes inside))
-    ∙ sym (text_behind (take size bytes) (drop size bytes) all)
-    ∙ ap (λ l. position_or_len is_no_text l) (take-append-drop size bytes)
-
-pub ends_parted : (bytes : List ℕ) (size : ℕ) → size ≤ length bytes → list_all is_text (take size bytes) ≡ true
-    → size + position_or_len is_no_text (drop size bytes) ≤ length bytes
-ends_parted bytes size inside all = let e = text_parted bytes size inside all in let i = ends_inside bytes in omega arith
-
--- text bytes, and eight more
-pub eight_more : (bytes rest : List ℕ) (size : ℕ) → list_all is_text (take size bytes) ≡ true → rest ≡ drop size bytes
-    → list_all is_text (take 8 rest) ≡ true → list_all is_text (take (size + 8) bytes) ≡ true
-eight_more bytes rest size all e more =
-    let next : list_all is_text (take 8 (drop size bytes)) ≡ true = ap (λ l. list_all is_text (take 8 l)) (sym e) ∙ more in
-    ap (λ l. list_all is_text l) (take-add size 8 bytes) ∙ list_all-append is_text (take size bytes) (take 8 (drop size bytes))
-    ∙ (grind (arith, nat_tests))

@@ -6,6 +6,7 @@ pub mod Many
 pub mod Spoken
 pub mod Pieces
 pub mod Captures
+pub mod TextLanes
 pub mod Firsts
 pub mod Covered
 pub mod UnitCuts

@@ -1,18 +1,15 @@
 //! The first frame of captured bytes.
 
-ghost use Rattle.std.specs.Prelude.{◌≡◌, ◌+◌, ◌≤◌, ◌∷◌, ◌++◌, [], length, take, drop, position, true, MatchOption};
-ghost use Rattle.std.specs.List.{list_all, position_or_len};
-ghost use Rattle.block_check.specs.Crc16.{crc_of};
-ghost use Rattle.dex_line.specs.Bytes.{is_no_text, is_text};
+ghost use Rattle.std.specs.Prelude.{◌≡◌, ◌≤◌, [], length, MatchOption};
 ghost use Rattle.dex_line.specs.Captured.{IsFrameOfSize};
 ghost use Rattle.dex_line.specs.FirstFrame.{first_closed, first_of, first_opened, sized_seen, some_sized};
 ghost use Rattle.dex_line.specs.FrameShapes.{captured_seen};
 ghost use Rattle.dex_line.specs.Judging.{checked, closed};
 
-use super::bytes::{DLE, ENQ, EOT, ETX, NAK, SOH, STX, is_text_byte};
+use super::bytes::{DLE, ENQ, EOT, ETX, NAK, SOH, STX, text_length};
 use super::frame::{BLOCK_READ, Opened};
 use super::lent::Captured;
-use block_check::Running;
+use super::spelling::closed_check;
 
 /// The first frame of the bytes, and how many of them it takes.
 pub(crate) fn first_frame<'a>(bytes: &'a [u8]) -> Option<(Captured<'a>, usize)>
@@ -86,79 +83,4 @@ fn whole<'a>(opened: Opened, closing: u8, text: &'a [u8]) -> Captured<'a>
             text,
         },
     }
-}
-
-/// The check of a text and the byte that closes it.
-fn closed_check(text: &[u8], closing: u8) -> u16
-    ensures { result ≡ crc_of (text.now ++ closing ∷ []) }
-{
-    let mut check = Running::new();
-    check.take_all(text);
-    check.take(closing);
-    check.value()
-}
-
-/// How many text bytes stand at the front.
-fn text_length(bytes: &[u8]) -> usize
-    ensures count { result ≡ position_or_len is_no_text bytes.now }
-    ensures inside { result ≤ length bytes.now }
-{
-    let size = eights_length(bytes);
-    size + short_length(from_place(bytes, size))
-}
-
-/// How many of them stand in the eights at the front that have no other byte.
-fn eights_length(bytes: &[u8]) -> usize
-    ensures inside { result ≤ length bytes.now }
-    ensures text { list_all is_text (take result bytes.now) ≡ true }
-{
-    let mut size = 0;
-    while begins_with_eight(from_place(bytes, size)) {
-        size += 8;
-    }
-    size
-}
-
-fn from_place(bytes: &[u8], place: usize) -> &[u8]
-    requires { place ≤ length bytes.now }
-    ensures bytes { result.now ≡ drop place bytes.now }
-    ensures inside { place + length result.now ≡ length bytes.now }
-{
-    &bytes[place..]
-}
-
-/// Whether eight text bytes stand at the front.
-fn begins_with_eight(bytes: &[u8]) -> bool
-    ensures inside { result ≡ true → 8 ≤ length bytes.now }
-    ensures text { result ≡ true → list_all is_text (take 8 bytes.now) ≡ true }
-{
-    let [a, b, c, d, e, f, g, h, ..] = bytes else {
-        return false;
-    };
-    is_text_byte(*a)
-        && is_text_byte(*b)
-        && is_text_byte(*c)
-        && is_text_byte(*d)
-        && is_text_byte(*e)
-        && is_text_byte(*f)
-        && is_text_byte(*g)
-        && is_text_byte(*h)
-}
-
-/// How many text bytes stand at the front, one after another.
-#[tactic(auto, using(crate::proofs::Judged::none_other, crate::proofs::Firsts::ends_inside))]
-fn short_length(bytes: &[u8]) -> usize
-    ensures count { result ≡ position_or_len is_no_text bytes.now }
-    ensures inside { result ≤ length bytes.now }
-{
-    match first_other(bytes) {
-        Some(place) => place,
-        None => bytes.len(),
-    }
-}
-
-fn first_other(bytes: &[u8]) -> Option<usize>
-    ensures { result ≡ position is_no_text bytes.now }
-{
-    bytes.iter().position(|&byte| !is_text_byte(byte))
 }

@@ -64,7 +64,7 @@ fn guard(opened: Opened, text: &[u8], closing: u8) -> ArrayVec<u8, 600>
 }
 
 /// The check of a text and the byte that closes it.
-fn closed_check(text: &[u8], closing: u8) -> u16
+pub(crate) fn closed_check(text: &[u8], closing: u8) -> u16
     ensures { result ≡ crc_of (text.now ++ closing ∷ []) }
 {
     let mut check = Running::new();

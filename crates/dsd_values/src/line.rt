@@ -85,17 +85,16 @@ impl Lines {
     }
 
     /// Adds an extra behind the last line, where there is one.
-    #[tactic(auto, using(crate::proofs::Behinds::with_extra_last))]
+    #[tactic(auto, using(crate::proofs::Behinds::with_extra_at, crate::proofs::Behinds::with_extra_none))]
     pub fn push_extra(&mut self, extra: Extra) -> Result<(), Memory>
         ensures ok { OnOk result (self.new ≡ with_extra extra self.old) }
         ensures err { OnErr result (self.new ≡ self.old) }
     {
-        let Some(mut line) = self.items.pop() else {
+        let count = self.items.len();
+        if count == 0 {
             return Ok(());
-        };
-        let pushed = line.extras.push(extra);
-        self.items.push_reserved(line);
-        pushed
+        }
+        self.items[count - 1].extras.push(extra)
     }
 
     pub fn as_slice(&self) -> &[Line]

@@ -1,5 +1,5 @@
 -- A G72 whose elements are right says an allowance that has a size where it changes a price, and one that says so is right.
-use Rattle.std.proofs.Common.{◌≡◌, ℕ, Bool, true, false, not, ◌&&◌, ◌==◌, List, [], length, Option, Some, None, is_some, Result, Ok, Err, IfOk, OnOk, inl, inr, refl, sym, ap, ◌∙◌, subst}
+use Rattle.std.proofs.Common.{◌≡◌, ℕ, Bool, true, false, not, ◌&&◌, ◌==◌, List, [], length, Option, Some, None, is_some, Result, Ok, Err, IfOk, ◌<◌, nat_le, inl, inr, refl, sym, ap, ◌∙◌, subst}
 use Rattle.std.proofs.lemmas.Bool.{cases_Bool}
 use Rattle.dsd_values.proofs.Laws.{filled_word_of_spelled}
 use Rattle.dsd_values.specs.Answers.{UnlessMemory}
@@ -9,11 +9,14 @@ use Rattle.dsd_values.specs.declared.fault.ValueFault.{ValueFault}
 use Rattle.segments.specs.declared.item_fault.ItemFault.{ItemFault}
 use Rattle.segments.specs.declared.item_fault.ItemFault.TheVariants as errors
 use Rattle.segments.specs.declared.set_fault.SetFault.{SetFault}
-use Rattle.segments.specs.Reasons.{at_segment}
+use Rattle.segments.specs.declared.set_fault.SetReason.{SetReason}
+use Rattle.segments.specs.declared.set_fault.SetReason.TheVariants as reasons
+use Rattle.segments.specs.Reasons.{Says, allowance_reason, as_value, at_segment}
 use Rattle.segments.specs.Views.{Seg, element_of}
-use Rattle.segments.specs.Elements.{Reads, some_of, optional}
+use Rattle.segments.specs.Elements.{Reads, ◌or_else◌, some_of, optional}
 use Rattle.segments.specs.Allowances.{counts, has_size, HasSize, IsAllowance, is_left_out, lacks_quantity, lacks_size, missing, allowance_fault, allowance_in}
-use Rattle.segments.proofs.Small.{both_none, none_then, at_ok, ok_at, ok_said}
+use Rattle.dsd_values.specs.declared.limits.TheConstants.{MOST_ALLOWANCES}
+use Rattle.segments.proofs.Small.{both_none, none_then, at_ok, ok_at, ok_said, not_le, when_not}
 
 -- ---- which elements are there
 
@@ -197,9 +200,12 @@ allowance_only in_line seg (Ok read) h allowance i = let same : read ≡ allowan
 allowance_only in_line seg (Err errors.Memory) h allowance i = inl refl
 allowance_only in_line seg (Err (errors.Value element why)) h allowance i = let none = right_allowance in_line allowance seg i in cc
 
--- the same of an answer about the set
-pub allowance_in_set : (in_line : Bool) (seg : Seg) (read : Result Allowance ItemFault) (answer : Result Allowance SetFault) → Reads read (allowance_fault in_line seg) (λ allowance. allowance ≡ allowance_in seg)
-    → answer ≡ at_segment seg.start read → OnOk answer (HasSize in_line (allowance_in seg))
-allowance_in_set in_line seg (Ok allowance) answer h same = subst (λ (a : Result Allowance SetFault). OnOk a (HasSize in_line (allowance_in seg))) (sym same) (allowance_right in_line seg h.0).size
-allowance_in_set in_line seg (Err errors.Memory) answer h same = subst (λ (a : Result Allowance SetFault). OnOk a (HasSize in_line (allowance_in seg))) (sym same) tt
-allowance_in_set in_line seg (Err (errors.Value element why)) answer h same = subst (λ (a : Result Allowance SetFault). OnOk a (HasSize in_line (allowance_in seg))) (sym same) tt
+-- a refused element is the reason where there is room
+pub allowance_refused : {X Y : Type 0} (fault : ItemFault) (answer : Result X SetFault) (in_line inside : Bool) (others beside : ℕ) (seg : Seg) (P : Y → Type 0) (Q : X → Type 0) → Reads (Err fault) (allowance_fault in_line seg) P
+    → answer ≡ at_segment seg.start (Err fault) → in_line ≡ inside → others ≡ beside → others < MOST_ALLOWANCES → Says answer seg.start (allowance_reason inside beside seg) Q
+allowance_refused errors.Memory answer in_line inside others beside seg P Q h same i o room = subst (λ (a : _). Says a seg.start (allowance_reason inside beside seg) Q) (sym same) tt
+allowance_refused (errors.Value element why) answer in_line inside others beside seg P Q h same i o room =
+    let room_there : nat_le MOST_ALLOWANCES others ≡ false = not_le MOST_ALLOWANCES others room in
+    let because : allowance_reason in_line others seg ≡ Some (reasons.Value element why) = ap (λ (r : Option SetReason). r or_else as_value (allowance_fault in_line seg)) (when_not _ _ room_there) ∙ ap as_value h in
+    let there : allowance_reason inside beside seg ≡ Some (reasons.Value element why) = ap (λ (b : Bool). allowance_reason b beside seg) (sym i) ∙ ap (λ (n : ℕ). allowance_reason in_line n seg) (sym o) ∙ because in
+    subst (λ (a : _). Says a seg.start (allowance_reason inside beside seg) Q) (sym same) (refl, there)

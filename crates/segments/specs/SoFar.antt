@@ -114,6 +114,10 @@ kept m seg kind phase count check = record {
   integrity = integrity_after kind (integrity_in seg) m.integrity;
 }
 
+-- the same, with one more line
+abbrev pub with_line : Line → SoFar → SoFar
+with_line line m = record m { lines = m.lines ++ line ∷ [] }
+
 -- the same, with one more extra behind the last line or at record level
 abbrev pub with_beside : Extra → SoFar → SoFar
 with_beside extra m = record m {

@@ -4,20 +4,20 @@ ghost use Rattle.std.specs.Prelude.{◌≡◌, ℕ, ◌+◌, ◌<◌, ◌≤◌,
 ghost use Rattle.block_check.specs.Crc16.{crc_from};
 ghost use Rattle.segments.specs.Tables.{line_in, integrity_in};
 ghost use Rattle.segments.specs.Kinds.{next_phase, is_done as done_at};
-ghost use Rattle.segments.specs.SoFar.{in_line, nothing, kept, moved, with_beside};
-ghost use Rattle.segments.specs.Allowances.{HasSize, allowance_in};
+ghost use Rattle.segments.specs.SoFar.{in_line, nothing, kept, moved, with_beside, with_line};
+ghost use Rattle.segments.specs.Allowances.{allowance_in};
 ghost use Rattle.segments.specs.Extras.{AreExtras, HasExtras, IsSized, allowances, kept_text};
 ghost use Rattle.segments.specs.Numbers.{HasRoom};
 ghost use Rattle.dsd_values.specs.declared.extra.Extra.TheVariants.{Allow, Note};
 ghost use Rattle.segments.specs.Views.{element_of};
 ghost use Rattle.segments.specs.Elements.{Reads};
 ghost use Rattle.segments.specs.Closing.{IsClosed};
-ghost use Rattle.segments.specs.Reasons.{Says, at_segment, admission, allowance_reason, beside, item_reason, loop_end_fault, integrity_reason, trailer_reason, course_reason};
+ghost use Rattle.segments.specs.Reasons.{Says, at_segment, admission, allowance_reason, beside, has_line, item_reason, when, loop_end_fault, integrity_reason, trailer_reason, course_reason};
 
-use crate::allowance::read_allowance;
 use crate::closing::{
     read_integrity, read_loop_start, read_signature, read_start, read_totals, read_trailer,
 };
+use crate::allowance::read_allowance;
 use crate::elements::{end_of_elements, kept_at, word_between_at};
 use crate::extras::RecordExtras;
 use crate::item::read_item;
@@ -31,8 +31,8 @@ use crate::set_fault::{SetFault, SetReason};
 use crate::stated::{Closed, StatedTotals};
 use block_check::Running;
 use dsd_values::{
-    Allowance, Cents, Check, Extra, Kept, Line, MOST_ALLOWANCES, MOST_LINES, Memory, SET_BYTES,
-    Signature, ValueFault, Word,
+    Cents, Check, Extra, Kept, Line, MOST_ALLOWANCES, MOST_LINES, Memory, SET_BYTES, Signature,
+    ValueFault, Word,
 };
 use std::alloc::Global;
 use std::marker::Model;
@@ -115,10 +115,7 @@ impl Course {
         match kind {
             Kind::Start => self.control = at(segment, read_start(segment))?,
             Kind::LoopStart => self.loop_id = at(segment, read_loop_start(segment))?,
-            Kind::Item => {
-                let line = item(self.alloc, segment, &self.lines)?;
-                self.lines.push(line)?;
-            }
+            Kind::Item => return self.keep_item(segment),
             Kind::LoopEnd => at(segment, loop_end(segment, &self.loop_id))?,
             Kind::Totals => self.totals = at(segment, read_totals(segment))?,
             Kind::Signature => self.signature = at(segment, read_signature(segment))?,
@@ -135,14 +132,44 @@ impl Course {
         Ok(())
     }
 
+    /// Keeps the line of an item.
+    fn keep_item(&mut self, segment: &Segment<'_>) -> Result<(), SetFault>
+        ensures { Says result segment.now.start (item_reason self.old.lines segment.now) (λ _. self.new ≡ with_line (line_in segment.now) self.old) }
+    {
+        if self.lines.len() >= MOST_LINES {
+            return refuse(segment, SetReason::Limit);
+        }
+        match read_item(self.alloc, segment) {
+            Ok(line) => self.push_line(segment, line),
+            Err(fault) => at(segment, Err(fault)),
+        }
+    }
+
+    /// Adds a line, if its number stands nowhere yet.
+    fn push_line(&mut self, segment: &Segment<'_>, line: Line) -> Result<(), SetFault>
+        requires room { length self.old.lines < MOST_LINES }
+        requires bare { line.extras ≡ [] }
+        ensures { Says result segment.now.start (when (has_line line.dsd self.old.lines) (SetReason.Twice line.dsd)) (λ _. self.new ≡ with_line line self.old) }
+    {
+        if self.lines.has(line.dsd) {
+            return refuse(segment, SetReason::Twice(line.dsd));
+        }
+        self.lines.push(line)?;
+        Ok(())
+    }
+
     /// Keeps an allowance, behind the last line or at record level.
     fn keep_allowance(&mut self, segment: &Segment<'_>) -> Result<(), SetFault>
         ensures { Says result segment.now.start (allowance_reason (in_line self.old.phase) (allowances (beside self.old)) segment.now)
             (λ _. self.new ≡ with_beside (Allow (allowance_in segment.now)) self.old) }
     {
-        let beside = self.allowances_beside();
-        let allowance = allowance(self.alloc, segment, self.phase.in_line(), beside)?;
-        self.push_extra(Extra::Allow(allowance))?;
+        if self.allowances_beside() >= MOST_ALLOWANCES {
+            return refuse(segment, SetReason::Limit);
+        }
+        match read_allowance(self.alloc, segment, self.phase.in_line()) {
+            Ok(allowance) => self.push_extra(Extra::Allow(allowance))?,
+            Err(fault) => return at(segment, Err(fault)),
+        }
         Ok(())
     }
 
@@ -242,37 +269,6 @@ fn push_text(texts: &mut Vec<Kept>, text: Kept) -> Result<(), Memory>
 {
     texts.push(text)?;
     Ok(())
-}
-
-fn item(alloc: Global, segment: &Segment<'_>, lines: &NumberedLines) -> Result<Line, SetFault>
-    ensures exact { Says result segment.now.start (item_reason lines.now segment.now) (λ line. line ≡ line_in segment.now) }
-    ensures room { OnOk result (length lines.now < MOST_LINES) }
-{
-    if lines.len() >= MOST_LINES {
-        return refuse(segment, SetReason::Limit);
-    }
-    let line = at(segment, read_item(alloc, segment))?;
-    if lines.has(line.dsd) {
-        return refuse(segment, SetReason::Twice(line.dsd));
-    }
-    Ok(line)
-}
-
-/// The allowance of a segment, beside so many others.
-fn allowance(
-    alloc: Global,
-    segment: &Segment<'_>,
-    in_line: bool,
-    beside: usize,
-) -> Result<Allowance, SetFault>
-    ensures exact { Says result segment.now.start (allowance_reason in_line beside segment.now) (λ allowance. allowance ≡ allowance_in segment.now) }
-    ensures size { OnOk result (HasSize in_line (allowance_in segment.now)) }
-    ensures room { OnOk result (beside < MOST_ALLOWANCES) }
-{
-    if beside >= MOST_ALLOWANCES {
-        return refuse(segment, SetReason::Limit);
-    }
-    at(segment, read_allowance(alloc, segment, in_line))
 }
 
 fn loop_end(segment: &Segment<'_>, loop_id: &Word) -> Result<(), ItemFault>

@@ -1,6 +1,6 @@
 use Rattle.std.proofs.Common.{◌≡◌, ◌≤◌, ◌*◌, take}
-use Rattle.base_record_894.specs.BaseRecord.{quantities}
-use Rattle.base_record_894.proofs.base.quantities.Given as goal
+use Rattle.dsd_pricing.specs.Pricing.{quantities}
+use Rattle.base_record_894.proofs.rows.quantities.Given as goal
 
 abbrev pub invariant-loop-line : goal.invariant-loop-line
 invariant-loop-line l = record {

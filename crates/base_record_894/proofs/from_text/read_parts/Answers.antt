@@ -7,7 +7,7 @@ use Rattle.base_record_894.specs.Said.{Said, nothing, after}
 use Rattle.base_record_894.specs.FirstRefusal.{refusal_of}
 use Rattle.base_record_894.specs.ReadParts.{said_by, IsReadFrom}
 use Rattle.base_record_894.proofs.Reading.{refusal_in, said_in, same_err, segment_ok, fault_answers, step_answers, end_answers, none_left, step_on, said_on, bytes_some, counted}
-use Rattle.base_record_894.proofs.plain.read_parts.Goals as goal
+use Rattle.base_record_894.proofs.from_text.read_parts.Goals as goal
 
 pub returns-in_err-segment-clause-exact : goal.returns-in_err-segment-clause-exact
 returns-in_err-segment-clause-exact c =

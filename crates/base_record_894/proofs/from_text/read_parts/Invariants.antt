@@ -4,7 +4,7 @@ use Rattle.segments.specs.SegmentCut.{cut_of, cut_left}
 use Rattle.base_record_894.specs.Said.{nothing}
 use Rattle.base_record_894.specs.FirstRefusal.{refusal_of}
 use Rattle.base_record_894.proofs.Reading.{refusal_in, said_in}
-use Rattle.base_record_894.proofs.plain.read_parts.Given as goal
+use Rattle.base_record_894.proofs.from_text.read_parts.Given as goal
 
 -- what is left is refused as the whole text is, and says with what was said what the whole text says
 abbrev pub invariant-loop-machine : goal.invariant-loop-machine
