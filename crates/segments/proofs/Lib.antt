@@ -28,3 +28,6 @@ pub mod Written
 pub mod GivenRows
 pub mod ControlNumbers
 pub mod Rows
+pub mod PartedTexts
+pub mod RowKinds
+pub mod RowsSay

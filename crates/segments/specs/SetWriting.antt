@@ -53,19 +53,21 @@ abbrev pub kept_row : List ℕ → Row
 kept_row text = row_of (before_first is_star text) [] (after_first is_star text)
 
 -- G83 and G89: a line
+abbrev pub item_elements : Line → List (List ℕ)
+item_elements line =
+    number_text line.dsd ∷ number_text line.quantity ∷ line.unit ∷ line.upc ∷ line.qualifier ∷ line.id ∷ line.case_code ∷ cost_text line.cost ∷ line.pack ∷ line.label ∷ []
+
 abbrev pub item_row : Form → Line → Row
-item_row form line =
-    row_of (item_id form)
-    (number_text line.dsd ∷ number_text line.quantity ∷ line.unit ∷ line.upc ∷ line.qualifier ∷ line.id ∷ line.case_code ∷ cost_text line.cost ∷ line.pack ∷ line.label ∷ [])
-    line.tail
+item_row form line = row_of (item_id form) (item_elements line) line.tail
 
 -- G72: an allowance
+abbrev pub allowance_elements : Allowance → List (List ℕ)
+allowance_elements allowance =
+    allowance.code ∷ allowance.method ∷ allowance.number ∷ allowance.exception ∷ optional_text cost_text allowance.rate ∷ optional_text number_text allowance.quantity
+    ∷ allowance.unit ∷ optional_text number_text allowance.total ∷ optional_text percent_text allowance.percent ∷ []
+
 abbrev pub allowance_row : Allowance → Row
-allowance_row allowance =
-    row_of (codes "G72")
-    (allowance.code ∷ allowance.method ∷ allowance.number ∷ allowance.exception ∷ optional_text cost_text allowance.rate ∷ optional_text number_text allowance.quantity
-    ∷ allowance.unit ∷ optional_text number_text allowance.total ∷ optional_text percent_text allowance.percent ∷ [])
-    allowance.tail
+allowance_row allowance = row_of (codes "G72") (allowance_elements allowance) allowance.tail
 
 abbrev pub extra_row : Extra → Row
 extra_row (Allow allowance) = allowance_row allowance
