@@ -31,3 +31,4 @@ pub mod Rows
 pub mod PartedTexts
 pub mod RowKinds
 pub mod RowsSay
+pub mod RowsShape

@@ -53,7 +53,7 @@ tail_again : (place before : ℕ) (row : Row) (tail : List ℕ) → drop before 
 tail_again place before row tail e t = trim_tail before row ∙ ap (λ (l : List (List ℕ)). without_end_stars (join_with_byte 42 l)) e ∙ t.same
 
 -- nothing stands behind the last element
-no_longer : (place last : ℕ) (row : Row) → drop (last + 1) row ≡ [] → IsNoLonger last (segment_of place row)
+pub no_longer : (place last : ℕ) (row : Row) → drop (last + 1) row ≡ [] → IsNoLonger last (segment_of place row)
 no_longer place last row e = subst AreEmpty (sym (trim_drop (last + 1) row ∙ ap without_empty_end e)) tt
 
 -- ---- values that may be left out
