@@ -32,3 +32,4 @@ pub mod PartedTexts
 pub mod RowKinds
 pub mod RowsSay
 pub mod RowsShape
+pub mod SealedRows
