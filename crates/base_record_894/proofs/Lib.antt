@@ -4,3 +4,4 @@ pub mod FoundOnly
 pub mod Reading
 pub mod OneRecord
 pub mod Totalled
+pub mod WrittenBack

@@ -71,7 +71,7 @@ then_long : (first second : Option ℕ) (old mid : SetSoFar) (new : SetSoFar) �
 then_long (Some size) second old mid new e = cc
 then_long None second old mid new e = refl
 
-were_written : (first : Option ℕ) (old mid : SetSoFar) → Ok mid ≡ unless_long first old → mid ≡ old
+pub were_written : (first : Option ℕ) (old mid : SetSoFar) → Ok mid ≡ unless_long first old → mid ≡ old
 were_written (Some size) old mid e = cc
 were_written None old mid e = cc
 

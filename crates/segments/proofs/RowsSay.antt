@@ -28,7 +28,7 @@ use Rattle.segments.proofs.Written.{element_part, id_part}
 -- ---- elements of a written row
 
 -- the element is read as this value
-reads_at : {V : Type 0} (reading : List ℕ → Result V ValueFault) (v : V) (place number : ℕ) (row : Row) → IsReadAs reading v (get_or row number []) → reading (element_of (segment_of place row) number) ≡ Ok v
+pub reads_at : {V : Type 0} (reading : List ℕ → Result V ValueFault) (v : V) (place number : ℕ) (row : Row) → IsReadAs reading v (get_or row number []) → reading (element_of (segment_of place row) number) ≡ Ok v
 reads_at reading v place number row is = ap reading (trim_element row number) ∙ is.read
 
 -- these may all stand in elements
@@ -49,7 +49,7 @@ row_segment id elements tail before i h size t = record {
 }
 
 -- the tail of a row
-tail_again : (place before : ℕ) (row : Row) (tail : List ℕ) → drop before row ≡ parted tail → IsTail before tail → tail_from before (segment_of place row) ≡ tail
+pub tail_again : (place before : ℕ) (row : Row) (tail : List ℕ) → drop before row ≡ parted tail → IsTail before tail → tail_from before (segment_of place row) ≡ tail
 tail_again place before row tail e t = trim_tail before row ∙ ap (λ (l : List (List ℕ)). without_end_stars (join_with_byte 42 l)) e ∙ t.same
 
 -- nothing stands behind the last element

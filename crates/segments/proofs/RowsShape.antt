@@ -35,7 +35,7 @@ segments_push place (first ∷ rows) row =
     let size : place + length (line_of first) + length (text_of rows) ≡ place + length (line_of first ++ text_of rows) = omega (arith, length-append (line_of first) (text_of rows)) in
     ap (λ (segs : List Seg). segment_of place first ∷ segs)
     (segments_push (place + length (line_of first)) rows row
-        ∙ ap (λ (n : ℕ). segments_of (place + length (line_of first)) rows ++ segment_of n row ∷ []) size)
+    ∙ ap (λ (n : ℕ). segments_of (place + length (line_of first)) rows ++ segment_of n row ∷ []) size)
 
 pub segments_bytes : (place : ℕ) (rows : List Row) → bytes_of (segments_of place rows) ≡ text_of rows
 segments_bytes place [] = refl
@@ -174,8 +174,8 @@ module _ (opened : List Row) (control : ℕ) where
       let later : List Row = flat_map (line_rows form) lines in
       subst (λ (rows : List Row). Reshapes (Items form (line ∷ lines) source) (Items form (line ∷ lines) target) (item_row form line ∷ rows)) (sym (append_assoc (map extra_row line.extras) later left))
       (one_row form kinds.Item (λ _ seg. IsItem line seg) (λ _ seg. IsItem line seg) (Extras true form line.extras (Items form lines source)) (Extras true form line.extras (Items form lines target))
-          (item_row form line) (map extra_row line.extras ++ (later ++ left)) (item_says form line)
-          (extras_reshaped true form line.extras (Items form lines source) (Items form lines target) (later ++ left) (items_reshaped form lines source target left rest)))
+      (item_row form line) (map extra_row line.extras ++ (later ++ left)) (item_says form line)
+      (extras_reshaped true form line.extras (Items form lines source) (Items form lines target) (later ++ left) (items_reshaped form lines source target left rest)))
 
   loop_start_says : (form : Form) (id : List ℕ) (before : List Seg) (seg : Seg) → IsLong seg → kind_of form seg ≡ kinds.LoopStart → IsLoopId id seg → RowSays form kinds.LoopStart (λ _ seg. IsLoopId loop_id seg) loop_start_row
   loop_start_says form id before seg s k is =
@@ -226,12 +226,15 @@ module _ (opened : List Row) (control : ℕ) where
       let check = check_again (crc_of (text_of opened)) s.check in
       let count : length (segments_of 0 done ++ segment_of (length (text_of done)) integrity ∷ []) + 1 ≡ length opened + 2 =
       omega (arith, length-append (segments_of 0 done) (segment_of (length (text_of done)) integrity ∷ []), segments_count 0 done, ap length e) in
-      let number = plain_read_back (length opened + 2) s.count in
-      (kind_row form (length (text_of done)) integrity ∙ integrity_kind form _,
+      let number = plain_read_back (length opened + 2) s.count in (
+        kind_row form (length (text_of done)) integrity ∙ integrity_kind form _,
         (ap check_of (trim_element integrity 1) ∙ check.read, ap (λ (rows : List Row). crc_of (text_of rows)) e ∙ ap crc_of (sym (segments_bytes 0 done)), no_longer (length (text_of done)) 1 integrity refl),
-        (kind_row form (length (text_of done) + length (line_of integrity)) trailer ∙ trailer_kind form _,
+        (
+          kind_row form (length (text_of done) + length (line_of integrity)) trailer ∙ trailer_kind form _,
           (ap plain_number_of (trim_element trailer 1) ∙ number ∙ ap Ok (sym count), ap filled_word_of (trim_element trailer 2) ∙ control_filled control s.small, no_longer (length (text_of done) + length (line_of integrity)) 2 trailer refl),
-          refl))
+          refl,
+        ),
+      )
 
   integrity_reshaped : (form : Form) (t : Shared) → Reshapes (Integrity form t) (Integrity form (resealed t)) []
   integrity_reshaped form t before segs done s all e = record {
@@ -244,8 +247,8 @@ module _ (opened : List Row) (control : ℕ) where
       one_row form kinds.Totals (λ _ seg. IsTotals t.totals seg) (λ _ seg. IsTotals t.totals seg) (Signed form t) (Signed form (resealed t)) (totals_row t.totals) (signature_row t.signature ∷ [])
       (λ before seg s k is. let again = totals_again t.totals seg is in record { kind_is = λ place. kind_row form place (totals_row t.totals) ∙ totals_kind form _; says = λ before place. again.says place; segment = again.segment })
       (one_row form kinds.Signature (λ _ seg. IsSignature t.signature seg) (λ _ seg. IsSignature t.signature seg) (Integrity form t) (Integrity form (resealed t)) (signature_row t.signature) []
-          (λ before seg s k is. let again = signature_again t.signature seg is in record { kind_is = λ place. kind_row form place (signature_row t.signature) ∙ signature_kind form _; says = λ before place. again.says place; segment = again.segment })
-          (integrity_reshaped form t))
+      (λ before seg s k is. let again = signature_again t.signature seg is in record { kind_is = λ place. kind_row form place (signature_row t.signature) ∙ signature_kind form _; says = λ before place. again.says place; segment = again.segment })
+      (integrity_reshaped form t))
 
   body_reshaped : (form : Form) (lines : List Line) (extras : List Extra) (t : Shared) → Reshapes (Body form lines extras t) (Body form lines extras (resealed t)) (body_rows form lines extras t.totals t.signature)
   body_reshaped form lines extras t =
