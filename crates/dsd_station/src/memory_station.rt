@@ -3,7 +3,8 @@ ghost use Rattle.dsd_station.specs.ByPlan.{answered, due_after, due_by, is_count
 ghost use Rattle.dsd_station.specs.Causes.{HasCause};
 ghost use Rattle.dsd_station.specs.Cursors.{due_at, IsIn};
 ghost use Rattle.dsd_station.specs.Effects.{heard_in, IsPiece};
-ghost use Rattle.dsd_station.specs.Logged.{has_failed, image_by, is_refused, new_log, played, starving, IsPlayed, Plays};
+ghost use Rattle.dsd_station.specs.Failures.{has_failed, is_refused};
+ghost use Rattle.dsd_station.specs.Logged.{image_by, new_log, played, starving, IsPlayed, Plays};
 ghost use Rattle.dsd_station.specs.Notes.{Fits};
 ghost use Rattle.dsd_station.specs.Plans.{with_fed, with_failure, with_stop, disarmed, after_restart};
 ghost use Rattle.dsd_station.specs.Planned.{Due, heard_of, left_due};
@@ -157,7 +158,9 @@ impl MemoryStation {
     pub fn starved(&self) -> bool
         ensures value { result ≡ self.now.starved }
         ensures played { IsPlayed self.now }
+        ensures short { length self.now.calls < 2 ^ 63 }
     {
+        let _ = self.tape.len();
         self.starved
     }
 
@@ -165,6 +168,7 @@ impl MemoryStation {
     pub fn spoken(&self) -> &[u8]
         ensures value { result.now ≡ (state_of self.now.calls).now.gone }
         ensures played { IsPlayed self.now }
+        ensures short { length self.now.calls < 2 ^ 63 }
     {
         self.tape.spoken()
     }
@@ -173,6 +177,7 @@ impl MemoryStation {
     pub fn image(&self) -> &[u8]
         ensures value { result.now ≡ image_by self.now }
         ensures played { IsPlayed self.now }
+        ensures short { length self.now.calls < 2 ^ 63 }
     {
         self.tape.image()
     }
