@@ -1,6 +1,5 @@
 pub mod Amounts
 pub mod Moves
 pub mod FoundOnly
-pub mod Reading
 pub mod OneRecord
 pub mod Totalled

@@ -6,6 +6,7 @@ pub mod Rest
 pub mod Back
 pub mod Forth
 pub mod Keeps
+pub mod Reading
 pub mod Trimmed
 pub mod Parted
 pub mod Scan

@@ -32,7 +32,7 @@ pub use item_fault::ItemFault;
 pub use kind::{Form, Kind, is_start_of};
 pub use laws::{order_is_the_grammar, segments_are_those_spelled, segments_stand_in_their_text};
 pub use phase::Phase;
-pub use refusing::{at, not_yet, refuse};
+pub use refusing::{at, next_segment, not_yet, refuse};
 pub use seal::Seal;
 pub use segment::{SEGMENT_BYTES, SEGMENT_ELEMENTS, Segment};
 pub use segment_fault::SegmentFault;
