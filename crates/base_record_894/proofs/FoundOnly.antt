@@ -33,6 +33,7 @@ use Rattle.segments.specs.declared.phase.Phase.TheVariants as phases
 use Rattle.segments.proofs.Cutting.{spelled_of-cut, cut_of-spelled}
 use Rattle.segments.proofs.Small.{both_none, no_value, none_then, not_when, same_number}
 use Rattle.segments.proofs.Rest.{IsAt, Read}
+use Rattle.segments.proofs.Whole.{AreShort, and_both, are_short, both_and, end_at, end_of, no_fault}
 use Rattle.segments.proofs.Back.{moves}
 use Rattle.segments.proofs.Behind.{no_extras}
 use Rattle.segments.proofs.Keeps.{Sound, is_sound, keeps, at_next, refused_none, none_refused, ended_none, none_ended, done_is, MayStand, may_stand, admitted}
@@ -156,11 +157,6 @@ own_keeps kinds.Head m seg phase count check e s = keeps kinds.Head m.course seg
 own_keeps kinds.Totals m seg phase count check e s = keeps kinds.Totals m.course seg phase count check (both_none _ _ e).0 s
 own_keeps k m seg phase count check e s = keeps k m.course seg phase count check e s
 
--- where the segments end
-abbrev end_of : ℕ → List Seg → ℕ
-end_of place [] = place
-end_of place (seg ∷ segs) = end_of (seg.start + length seg.bytes) segs
-
 whole_end : (segs : List Seg) (m : Said) (place : ℕ) (fault : Option SegmentFault) → refusal_from judged m place segs fault ≡ None → Sound m.course.lines m.course.extras → Sums m.course → place ≤ SET_BYTES
     → Sound (said_by judged m segs).course.lines (said_by judged m segs).course.extras × Sums (said_by judged m segs).course × (end_of place segs ≤ SET_BYTES)
 whole_end [] m place fault e s u p = (s, u, p)
@@ -172,35 +168,7 @@ whole_end (seg ∷ segs) m place fault e s u p =
     (sums_kept (kind_of forms.Base seg) m seg (m.course.count + 1) (crc_from m.course.check seg.bytes) st.right u)
     st.may.short
 
--- ---- the segments of a text, by their places
-
-end_at : (segs : List Seg) (place : ℕ) (text : List ℕ) → SpellsSegments place segs text → end_of place segs ≡ place + length text
-end_at [] place text e = omega (arith, ap length e)
-end_at (seg ∷ segs) place text (is, start, (rest, joined, more)) =
-    let later = end_at segs (place + length seg.bytes) rest more in
-    let at : seg.start + length seg.bytes ≡ place + length seg.bytes = ap (λ (n : ℕ). n + length seg.bytes) start in
-    ap (λ (n : ℕ). end_of n segs) at ∙ later ∙ omega (arith, ap length joined, length-append seg.bytes rest)
-
-abbrev AreShort : List Seg → Type 0
-AreShort [] = Unit {0}
-AreShort (seg ∷ segs) = (seg.start + length seg.bytes ≤ SET_BYTES) × AreShort segs
-
-are_short : (segs : List Seg) (place : ℕ) (text : List ℕ) → SpellsSegments place segs text → place + length text ≤ SET_BYTES → AreShort segs
-are_short [] place text e h = tt
-are_short (seg ∷ segs) place text (is, start, (rest, joined, more)) h =
-    let long : length text ≡ length seg.bytes + length rest = omega (arith, ap length joined, length-append seg.bytes rest) in
-    let here : place + length seg.bytes + length rest ≤ SET_BYTES = omega arith in
-    (omega arith, are_short segs (place + length seg.bytes) rest more here)
-
 -- ---- what stands to the end is the rest of a record
-
-and_both : (a b : Bool) → (a && b) ≡ true → (a ≡ true) × (b ≡ true)
-and_both true b e = (refl, e)
-and_both false b e = cc
-
-both_and : (a b : Bool) → a ≡ true → b ≡ true → (a && b) ≡ true
-both_and true b p q = q
-both_and false b p q = cc
 
 some_head : (h : Option Head) (head : Head) → Some head ≡ h → has_head h ≡ true
 some_head (Some h) head e = refl
@@ -246,16 +214,12 @@ whole_behind [] m place fault e =
     ap is_behind (sym (done_is m.course.phase whole.0))
 whole_behind (seg ∷ segs) m place fault e = whole_behind segs (after m seg) _ fault (refused_none (reason_of m seg) seg.start _ e).1
 
-no_fault : (segs : List Seg) (m : Said) (place : ℕ) (fault : Option SegmentFault) → refusal_from judged m place segs fault ≡ None → fault ≡ None
-no_fault [] m place fault e = (ended_none _ place fault e).1
-no_fault (seg ∷ segs) m place fault e = no_fault segs (after m seg) _ fault (refused_none (reason_of m seg) seg.start _ e).1
-
 -- What is read is a base record.
 pub found : (text : List ℕ) (parts : Parts) → refusal_from judged nothing 0 (cut_of text).segments (cut_of text).fault ≡ None → IsReadFrom (said_by judged nothing (cut_of text).segments) parts
     → Is894 (record_of parts) (seal_of parts) text
 found text parts e r =
     let segs = (cut_of text).segments in
-    let whole : SpellsSegments 0 segs text = spelled_of-cut text segs (ap (λ (f : Option SegmentFault). record { segments = segs; fault = f }) (no_fault segs nothing 0 (cut_of text).fault e)) in
+    let whole : SpellsSegments 0 segs text = spelled_of-cut text segs (ap (λ (f : Option SegmentFault). record { segments = segs; fault = f }) (no_fault judged segs nothing 0 (cut_of text).fault e)) in
     let none : 0 ≤ MOST_LINES = omega arith in
     let zero_in : 0 ≤ SET_BYTES = omega arith in
     let ends = whole_end segs nothing 0 (cut_of text).fault e (tt, none, All-nil HasExtras, no_extras false) (λ b. cc) zero_in in

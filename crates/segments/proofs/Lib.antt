@@ -7,6 +7,7 @@ pub mod Back
 pub mod Forth
 pub mod Keeps
 pub mod Reading
+pub mod Whole
 pub mod Trimmed
 pub mod Parted
 pub mod Scan
