@@ -1,15 +1,12 @@
 -- The record that is read is the one that its text spells.
 use Rattle.std.proofs.Common.{◌≡◌, ℕ, ◌+◌, length, List, [], ◌∷◌, Result, Ok, Err, Some, None, Option, IfOk, refl, sym, ap, ◌∙◌, subst}
-use Rattle.std.specs.List.{All}
-use Rattle.std.proofs.lemmas.List.Elements.{All-cons, All-nil}
 use Rattle.dsd_values.specs.Calendar.{Date}
 use Rattle.dsd_values.specs.declared.extra.Extra.{Extra}
 use Rattle.dsd_values.specs.declared.flag.Flag.{Flag}
 use Rattle.dsd_values.specs.declared.line.Line.{Line}
 use Rattle.dsd_values.specs.declared.signature.Signature.{Signature}
-use Rattle.segments.specs.Views.{Seg}
 use Rattle.segments.specs.SegmentCut.{cut_of}
-use Rattle.segments.specs.SegmentSpelling.{SpellsSegments}
+use Rattle.segments.proofs.Whole.{long_ones}
 use Rattle.segments.specs.Refusal.{Answers, Refusal}
 use Rattle.segments.specs.declared.segment_fault.SegmentFault.{SegmentFault}
 use Rattle.segments.specs.declared.set_fault.SetFault.{SetFault}
@@ -18,7 +15,7 @@ use Rattle.segments.specs.declared.seal.Seal.{Seal}
 use Rattle.segments.specs.declared.stated.StatedTotals.{StatedTotals}
 use Rattle.base_record_894.specs.BaseRecord.{BaseRecord}
 use Rattle.base_record_894.specs.Grammar.{shared_of}
-use Rattle.base_record_894.specs.RecordText.{Is894, IsBase, IsLongSegment}
+use Rattle.base_record_894.specs.RecordText.{Is894, IsBase}
 use Rattle.base_record_894.specs.Said.{nothing}
 use Rattle.base_record_894.specs.FirstRefusal.{judged, refusal_of}
 use Rattle.segments.specs.Refusal.{refusal_from, said_by}
@@ -87,12 +84,6 @@ pub only_err : {X Y : Type 0} (text : List ℕ) (e : SetFault) (r : Result X Set
     → Is894 b s text → Answers r None Q
 only_err text errors.Memory r b s P Q same a is = subst (λ (u : _). Answers u None Q) (sym same) tt
 only_err text (errors.Refused place reason) r b s P Q same a is = subst (λ (u : _). Answers u None Q) (sym same) (sym (not_refused text b s is) ∙ a)
-
--- the segments of a text are segments, lengths aside
-long_ones : (segs : List Seg) (place : ℕ) (text : List ℕ) → SpellsSegments place segs text → All IsLongSegment segs
-long_ones [] place text e = All-nil IsLongSegment
-long_ones (seg ∷ segs) place text (is, start, (rest, joined, more)) =
-    All-cons IsLongSegment seg segs (record { segment = is.segment; spelled = is.spelled }) (long_ones segs (place + length seg.bytes) rest more)
 
 pub is_base : (text : List ℕ) (b : BaseRecord) (s : Seal) → Is894 b s text → IsBase b
 is_base text b s is = record {

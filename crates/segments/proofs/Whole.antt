@@ -1,9 +1,11 @@
 -- Segments up to the end of a text, and a set that is whole there.
 use Rattle.std.proofs.Common.{◌≡◌, ℕ, ◌+◌, ◌≤◌, ◌&&◌, Bool, true, false, List, [], ◌∷◌, ◌++◌, length, Some, None, Option, refl, ap, ◌∙◌, arith, length-append}
+use Rattle.std.specs.List.{All}
+use Rattle.std.proofs.lemmas.List.Elements.{All-cons, All-nil}
 use Rattle.dsd_values.specs.declared.limits.TheConstants.{SET_BYTES}
 use Rattle.segments.specs.Views.{Seg}
 use Rattle.segments.specs.Refusal.{Judged, refusal_from}
-use Rattle.segments.specs.SegmentSpelling.{SpellsSegments}
+use Rattle.segments.specs.SegmentSpelling.{IsLongSegment, SpellsSegments}
 use Rattle.segments.specs.declared.segment_fault.SegmentFault.{SegmentFault}
 use Rattle.segments.proofs.Keeps.{refused_none, ended_none}
 
@@ -41,3 +43,9 @@ both_and false b p q = cc
 pub no_fault : {M : Type 0} (j : Judged M) (segs : List Seg) (m : M) (place : ℕ) (fault : Option SegmentFault) → refusal_from j m place segs fault ≡ None → fault ≡ None
 no_fault j [] m place fault e = (ended_none _ place fault e).1
 no_fault j (seg ∷ segs) m place fault e = no_fault j segs (j.after m seg) _ fault (refused_none (j.reason m seg) seg.start _ e).1
+
+-- the segments of a text are segments, lengths aside
+pub long_ones : (segs : List Seg) (place : ℕ) (text : List ℕ) → SpellsSegments place segs text → All IsLongSegment segs
+long_ones [] place text e = All-nil IsLongSegment
+long_ones (seg ∷ segs) place text (is, start, (rest, joined, more)) =
+    All-cons IsLongSegment seg segs (record { segment = is.segment; spelled = is.spelled }) (long_ones segs (place + length seg.bytes) rest more)

@@ -26,7 +26,7 @@ mod writing_laws;
 
 pub use allowance::read_allowance;
 pub use course::Course;
-pub use elements::{in_element, tail_at, word_at};
+pub use elements::{check_at, end_of_elements, in_element, tail_at, word_at};
 pub use item::read_item;
 pub use item_fault::ItemFault;
 pub use kind::{Form, Kind, is_start_of};
