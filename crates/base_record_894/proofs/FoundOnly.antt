@@ -33,6 +33,7 @@ use Rattle.segments.specs.declared.phase.Phase.TheVariants as phases
 use Rattle.segments.proofs.Cutting.{spelled_of-cut, cut_of-spelled}
 use Rattle.segments.proofs.Small.{both_none, no_value, none_then, not_when, same_number}
 use Rattle.segments.proofs.Rest.{IsAt, Read}
+use Rattle.segments.proofs.Whole.{AreShort, and_both, are_short, both_and, end_at, end_of, no_fault}
 use Rattle.segments.proofs.Back.{moves}
 use Rattle.segments.proofs.Behind.{no_extras}
 use Rattle.segments.proofs.Keeps.{Sound, is_sound, keeps, at_next, refused_none, none_refused, ended_none, none_ended, done_is, MayStand, may_stand, admitted}
@@ -40,8 +41,9 @@ use Rattle.base_record_894.specs.BaseRecord.{BaseRecord}
 use Rattle.base_record_894.specs.Grammar.{shared_of, AreSegments, FromStart}
 use Rattle.base_record_894.specs.RecordText.{Is894}
 use Rattle.base_record_894.specs.Said.{Said, nothing, own_reason, reason_of, answer_reason, rows_reason, kept_by, after, is_whole, has_head}
-use Rattle.base_record_894.specs.FirstRefusal.{refusal_from}
-use Rattle.base_record_894.specs.ReadParts.{said_by, IsReadFrom, record_of, seal_of}
+use Rattle.base_record_894.specs.FirstRefusal.{judged}
+use Rattle.segments.specs.Refusal.{refusal_from, said_by}
+use Rattle.base_record_894.specs.ReadParts.{IsReadFrom, record_of, seal_of}
 use Rattle.base_record_894.specs.declared.head.Head.{Head}
 use Rattle.base_record_894.specs.declared.parts.Parts.{Parts}
 use Rattle.base_record_894.proofs.Amounts.{cents_low, priced_totals, same_amount, totals_priced}
@@ -155,13 +157,8 @@ own_keeps kinds.Head m seg phase count check e s = keeps kinds.Head m.course seg
 own_keeps kinds.Totals m seg phase count check e s = keeps kinds.Totals m.course seg phase count check (both_none _ _ e).0 s
 own_keeps k m seg phase count check e s = keeps k m.course seg phase count check e s
 
--- where the segments end
-abbrev end_of : ℕ → List Seg → ℕ
-end_of place [] = place
-end_of place (seg ∷ segs) = end_of (seg.start + length seg.bytes) segs
-
-whole_end : (segs : List Seg) (m : Said) (place : ℕ) (fault : Option SegmentFault) → refusal_from m place segs fault ≡ None → Sound m.course.lines m.course.extras → Sums m.course → place ≤ SET_BYTES
-    → Sound (said_by m segs).course.lines (said_by m segs).course.extras × Sums (said_by m segs).course × (end_of place segs ≤ SET_BYTES)
+whole_end : (segs : List Seg) (m : Said) (place : ℕ) (fault : Option SegmentFault) → refusal_from judged m place segs fault ≡ None → Sound m.course.lines m.course.extras → Sums m.course → place ≤ SET_BYTES
+    → Sound (said_by judged m segs).course.lines (said_by judged m segs).course.extras × Sums (said_by judged m segs).course × (end_of place segs ≤ SET_BYTES)
 whole_end [] m place fault e s u p = (s, u, p)
 whole_end (seg ∷ segs) m place fault e s u p =
     let n = refused_none (reason_of m seg) seg.start _ e in
@@ -171,35 +168,7 @@ whole_end (seg ∷ segs) m place fault e s u p =
     (sums_kept (kind_of forms.Base seg) m seg (m.course.count + 1) (crc_from m.course.check seg.bytes) st.right u)
     st.may.short
 
--- ---- the segments of a text, by their places
-
-end_at : (segs : List Seg) (place : ℕ) (text : List ℕ) → SpellsSegments place segs text → end_of place segs ≡ place + length text
-end_at [] place text e = omega (arith, ap length e)
-end_at (seg ∷ segs) place text (is, start, (rest, joined, more)) =
-    let later = end_at segs (place + length seg.bytes) rest more in
-    let at : seg.start + length seg.bytes ≡ place + length seg.bytes = ap (λ (n : ℕ). n + length seg.bytes) start in
-    ap (λ (n : ℕ). end_of n segs) at ∙ later ∙ omega (arith, ap length joined, length-append seg.bytes rest)
-
-abbrev AreShort : List Seg → Type 0
-AreShort [] = Unit {0}
-AreShort (seg ∷ segs) = (seg.start + length seg.bytes ≤ SET_BYTES) × AreShort segs
-
-are_short : (segs : List Seg) (place : ℕ) (text : List ℕ) → SpellsSegments place segs text → place + length text ≤ SET_BYTES → AreShort segs
-are_short [] place text e h = tt
-are_short (seg ∷ segs) place text (is, start, (rest, joined, more)) h =
-    let long : length text ≡ length seg.bytes + length rest = omega (arith, ap length joined, length-append seg.bytes rest) in
-    let here : place + length seg.bytes + length rest ≤ SET_BYTES = omega arith in
-    (omega arith, are_short segs (place + length seg.bytes) rest more here)
-
 -- ---- what stands to the end is the rest of a record
-
-and_both : (a b : Bool) → (a && b) ≡ true → (a ≡ true) × (b ≡ true)
-and_both true b e = (refl, e)
-and_both false b e = cc
-
-both_and : (a b : Bool) → a ≡ true → b ≡ true → (a && b) ≡ true
-both_and true b p q = q
-both_and false b p q = cc
 
 some_head : (h : Option Head) (head : Head) → Some head ≡ h → has_head h ≡ true
 some_head (Some h) head e = refl
@@ -222,8 +191,8 @@ price_end m parts c (sums, same, low) =
     ap (λ (u : StatedTotals). pos u.amount) c.totals ∙ same ∙ ap (λ (u : List Line). priced u m.extras) (sym c.lines) ∙ ap (λ (u : List Extra). priced parts.closed.lines u) (sym c.extras) in
     priced_totals parts.closed.lines parts.closed.extras (amount_in parts) (subst (λ (u : StatedTotals). u.amount ≤ MOST_CENTS) (sym c.totals) low) cents
 
-found_rest : (segs : List Seg) (m : Said) (before : List Seg) (place : ℕ) (fault : Option SegmentFault) (parts : Parts) → IsAt before m.course → refusal_from m place segs fault ≡ None
-    → IsReadFrom (said_by m segs) parts → Sums (said_by m segs).course
+found_rest : (segs : List Seg) (m : Said) (before : List Seg) (place : ℕ) (fault : Option SegmentFault) (parts : Parts) → IsAt before m.course → refusal_from judged m place segs fault ≡ None
+    → IsReadFrom (said_by judged m segs) parts → Sums (said_by judged m segs).course
     → Rest894 m.course.phase m (record_of parts) (seal_of parts) (amount_in parts) before segs
 unfolding kept kept_by
 found_rest [] m before place fault parts at e r u =
@@ -239,22 +208,18 @@ found_rest (seg ∷ segs) m before place fault parts at e r u =
     back m (record_of parts) (seal_of parts) (amount_in parts) before seg segs (m.course.count + 1) (crc_from m.course.check seg.bytes) m.course.phase (kind_of forms.Base seg) st.may.moves_on refl refl st.right at rest
 
 -- the totals have come where the set is whole
-whole_behind : (segs : List Seg) (m : Said) (place : ℕ) (fault : Option SegmentFault) → refusal_from m place segs fault ≡ None → is_behind (said_by m segs).course.phase ≡ true
+whole_behind : (segs : List Seg) (m : Said) (place : ℕ) (fault : Option SegmentFault) → refusal_from judged m place segs fault ≡ None → is_behind (said_by judged m segs).course.phase ≡ true
 whole_behind [] m place fault e =
     let whole = and_both _ _ (ended_none _ place fault e).0 in
     ap is_behind (sym (done_is m.course.phase whole.0))
 whole_behind (seg ∷ segs) m place fault e = whole_behind segs (after m seg) _ fault (refused_none (reason_of m seg) seg.start _ e).1
 
-no_fault : (segs : List Seg) (m : Said) (place : ℕ) (fault : Option SegmentFault) → refusal_from m place segs fault ≡ None → fault ≡ None
-no_fault [] m place fault e = (ended_none _ place fault e).1
-no_fault (seg ∷ segs) m place fault e = no_fault segs (after m seg) _ fault (refused_none (reason_of m seg) seg.start _ e).1
-
 -- What is read is a base record.
-pub found : (text : List ℕ) (parts : Parts) → refusal_from nothing 0 (cut_of text).segments (cut_of text).fault ≡ None → IsReadFrom (said_by nothing (cut_of text).segments) parts
+pub found : (text : List ℕ) (parts : Parts) → refusal_from judged nothing 0 (cut_of text).segments (cut_of text).fault ≡ None → IsReadFrom (said_by judged nothing (cut_of text).segments) parts
     → Is894 (record_of parts) (seal_of parts) text
 found text parts e r =
     let segs = (cut_of text).segments in
-    let whole : SpellsSegments 0 segs text = spelled_of-cut text segs (ap (λ (f : Option SegmentFault). record { segments = segs; fault = f }) (no_fault segs nothing 0 (cut_of text).fault e)) in
+    let whole : SpellsSegments 0 segs text = spelled_of-cut text segs (ap (λ (f : Option SegmentFault). record { segments = segs; fault = f }) (no_fault judged segs nothing 0 (cut_of text).fault e)) in
     let none : 0 ≤ MOST_LINES = omega arith in
     let zero_in : 0 ≤ SET_BYTES = omega arith in
     let ends = whole_end segs nothing 0 (cut_of text).fault e (tt, none, All-nil HasExtras, no_extras false) (λ b. cc) zero_in in
@@ -264,9 +229,9 @@ found text parts e r =
       segments = segs;
       spelled = whole;
       amount = amount_in parts;
-      price = price_end (said_by nothing segs).course parts r.closed (ends.1 (whole_behind segs nothing 0 (cut_of text).fault e));
+      price = price_end (said_by judged nothing segs).course parts r.closed (ends.1 (whole_behind segs nothing 0 (cut_of text).fault e));
       shape = shaped segs parts rest;
-      sound = subst (λ (t : List Line). IsSound t parts.closed.extras) (sym r.closed.lines) (subst (λ (x : List Extra). IsSound (said_by nothing segs).course.lines x) (sym r.closed.extras) (is_sound _ _ ends.0));
+      sound = subst (λ (t : List Line). IsSound t parts.closed.extras) (sym r.closed.lines) (subst (λ (x : List Extra). IsSound (said_by judged nothing segs).course.lines x) (sym r.closed.extras) (is_sound _ _ ends.0));
       short = omega (arith, end, ends.2);
     }
   where
@@ -285,15 +250,15 @@ none_of m seg kind k a d o =
     (none_then _ _ a (none_then _ _ d o))
 
 pub record IsReadSo (m : Said) (b : BaseRecord) (s : Seal) (amount : ℕ) (place : ℕ) (segs : List Seg) : Type 0 where
-  pub none : refusal_from m place segs None ≡ None
-  pub head : Some (head_of b) ≡ (said_by m segs).head
-  pub references : b.references ≡ (said_by m segs).course.references
-  pub lines : b.lines ≡ (said_by m segs).course.lines
-  pub extras : b.extras ≡ (said_by m segs).course.extras
-  pub control : s.control ≡ (said_by m segs).course.control
-  pub totals : (shared_of b s amount).totals ≡ (said_by m segs).course.totals
-  pub signature : b.signature ≡ (said_by m segs).course.signature
-  pub check : s.check ≡ (said_by m segs).course.integrity
+  pub none : refusal_from judged m place segs None ≡ None
+  pub head : Some (head_of b) ≡ (said_by judged m segs).head
+  pub references : b.references ≡ (said_by judged m segs).course.references
+  pub lines : b.lines ≡ (said_by judged m segs).course.lines
+  pub extras : b.extras ≡ (said_by judged m segs).course.extras
+  pub control : s.control ≡ (said_by judged m segs).course.control
+  pub totals : (shared_of b s amount).totals ≡ (said_by judged m segs).course.totals
+  pub signature : b.signature ≡ (said_by judged m segs).course.signature
+  pub check : s.check ≡ (said_by judged m segs).course.integrity
 
 record IsWhole (from : Phase) (m : Said) (b : BaseRecord) (s : Seal) (amount : ℕ) : Type 0 where
   done : is_done from ≡ true

@@ -1,7 +1,6 @@
 pub mod Amounts
 pub mod Moves
 pub mod FoundOnly
-pub mod Reading
 pub mod OneRecord
 pub mod Totalled
 pub mod WrittenBack

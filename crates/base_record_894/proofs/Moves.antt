@@ -29,7 +29,7 @@ use Rattle.segments.proofs.Forth as course_forth
 use Rattle.base_record_894.specs.BaseRecord.{BaseRecord}
 use Rattle.base_record_894.specs.HeadTable.{head_fault, head_in, no_day}
 use Rattle.base_record_894.specs.Grammar.{IsHead, FromStart, FromHead, shared_of}
-use Rattle.base_record_894.specs.Said.{Said, own_reason, kept_by, rows_reason}
+use Rattle.base_record_894.specs.Said.{Said, after, own_reason, kept_by, rows_reason}
 use Rattle.base_record_894.specs.declared.head.Head.{Head}
 use Rattle.base_record_894.proofs.Amounts.{amount_same}
 
@@ -129,6 +129,10 @@ Rest894 phases.Start m b s amount before segs = (texts : List (List ℕ)) × (li
 Rest894 phases.Head m b s amount before segs = (texts : List (List ℕ)) × (lines : List Line) × (extras : List Extra)
     × Left m.course (shared_of b s amount) texts [] lines extras × FromHead texts lines extras b s amount before segs
 Rest894 phase m b s amount before segs = (Some (head_of b) ≡ m.head) × RestAt phase forms.Base m.course (shared_of b s amount) before segs
+
+pub counted : (m : Said) (seg : Seg) → (after m seg).course.count ≡ m.course.count + 1
+unfolding kept_by kept
+counted m seg = refl
 
 -- a note of the record
 record_note : (kind : Kind) → is_note false kind ≡ true → kind ≡ kinds.Note

@@ -1,15 +1,12 @@
 -- The record that is read is the one that its text spells.
 use Rattle.std.proofs.Common.{◌≡◌, ℕ, ◌+◌, length, List, [], ◌∷◌, Result, Ok, Err, Some, None, Option, IfOk, refl, sym, ap, ◌∙◌, subst}
-use Rattle.std.specs.List.{All}
-use Rattle.std.proofs.lemmas.List.Elements.{All-cons, All-nil}
 use Rattle.dsd_values.specs.Calendar.{Date}
 use Rattle.dsd_values.specs.declared.extra.Extra.{Extra}
 use Rattle.dsd_values.specs.declared.flag.Flag.{Flag}
 use Rattle.dsd_values.specs.declared.line.Line.{Line}
 use Rattle.dsd_values.specs.declared.signature.Signature.{Signature}
-use Rattle.segments.specs.Views.{Seg}
 use Rattle.segments.specs.SegmentCut.{cut_of}
-use Rattle.segments.specs.SegmentSpelling.{SpellsSegments}
+use Rattle.segments.proofs.Whole.{long_ones}
 use Rattle.segments.specs.Refusal.{Answers, Refusal}
 use Rattle.segments.specs.declared.segment_fault.SegmentFault.{SegmentFault}
 use Rattle.segments.specs.declared.set_fault.SetFault.{SetFault}
@@ -18,10 +15,11 @@ use Rattle.segments.specs.declared.seal.Seal.{Seal}
 use Rattle.segments.specs.declared.stated.StatedTotals.{StatedTotals}
 use Rattle.base_record_894.specs.BaseRecord.{BaseRecord}
 use Rattle.base_record_894.specs.Grammar.{shared_of}
-use Rattle.base_record_894.specs.RecordText.{Is894, IsBase, IsLongSegment}
+use Rattle.base_record_894.specs.RecordText.{Is894, IsBase}
 use Rattle.base_record_894.specs.Said.{nothing}
-use Rattle.base_record_894.specs.FirstRefusal.{refusal_of, refusal_from}
-use Rattle.base_record_894.specs.ReadParts.{said_by, IsReadFrom, record_of, seal_of}
+use Rattle.base_record_894.specs.FirstRefusal.{judged, refusal_of}
+use Rattle.segments.specs.Refusal.{refusal_from, said_by}
+use Rattle.base_record_894.specs.ReadParts.{IsReadFrom, record_of, seal_of}
 use Rattle.base_record_894.specs.declared.head.Head.{Head}
 use Rattle.base_record_894.specs.declared.parts.Parts.{Parts}
 use Rattle.base_record_894.proofs.Moves.{head_of}
@@ -54,7 +52,7 @@ pub record IsSame (parts : Parts) (b : BaseRecord) (s : Seal) : Type 0 where
   pub seal : seal_of parts ≡ s
 
 -- what was read of a text that spells a record is that record
-pub same_read : (text : List ℕ) (parts : Parts) (b : BaseRecord) (s : Seal) → Is894 b s text → IsReadFrom (said_by nothing (cut_of text).segments) parts → IsSame parts b s
+pub same_read : (text : List ℕ) (parts : Parts) (b : BaseRecord) (s : Seal) → Is894 b s text → IsReadFrom (said_by judged nothing (cut_of text).segments) parts → IsSame parts b s
 same_read text parts b s is r =
     let o = (only text b s is).0 in
     let some : Some parts.head ≡ Some (head_of b) = sym (o.head ∙ r.head) in
@@ -79,19 +77,13 @@ same_read text parts b s is r =
 pub not_refused : (text : List ℕ) (b : BaseRecord) (s : Seal) → Is894 b s text → refusal_of text ≡ None
 not_refused text b s is =
     let o = only text b s is in
-    ap (λ (f : Option SegmentFault). refusal_from nothing 0 (cut_of text).segments f) o.1 ∙ o.0.none
+    ap (λ (f : Option SegmentFault). refusal_from judged nothing 0 (cut_of text).segments f) o.1 ∙ o.0.none
 
 -- the answers of a call that was refused
 pub only_err : {X Y : Type 0} (text : List ℕ) (e : SetFault) (r : Result X SetFault) (b : BaseRecord) (s : Seal) (P : Y → Type 0) (Q : X → Type 0) → r ≡ Err e → Answers (Err e) (refusal_of text) P
     → Is894 b s text → Answers r None Q
 only_err text errors.Memory r b s P Q same a is = subst (λ (u : _). Answers u None Q) (sym same) tt
 only_err text (errors.Refused place reason) r b s P Q same a is = subst (λ (u : _). Answers u None Q) (sym same) (sym (not_refused text b s is) ∙ a)
-
--- the segments of a text are segments, lengths aside
-long_ones : (segs : List Seg) (place : ℕ) (text : List ℕ) → SpellsSegments place segs text → All IsLongSegment segs
-long_ones [] place text e = All-nil IsLongSegment
-long_ones (seg ∷ segs) place text (is, start, (rest, joined, more)) =
-    All-cons IsLongSegment seg segs (record { segment = is.segment; spelled = is.spelled }) (long_ones segs (place + length seg.bytes) rest more)
 
 pub is_base : (text : List ℕ) (b : BaseRecord) (s : Seal) → Is894 b s text → IsBase b
 is_base text b s is = record {
@@ -104,7 +96,7 @@ is_base text b s is = record {
   sound = is.sound;
 }
 
-pub spelled : (text : List ℕ) (parts : Parts) → refusal_of text ≡ None → IsReadFrom (said_by nothing (cut_of text).segments) parts → IsBase (record_of parts)
+pub spelled : (text : List ℕ) (parts : Parts) → refusal_of text ≡ None → IsReadFrom (said_by judged nothing (cut_of text).segments) parts → IsBase (record_of parts)
 spelled text parts e r = is_base text (record_of parts) (seal_of parts) (found text parts e r)
 
 -- two records of one text are one
@@ -130,6 +122,6 @@ one text a b s t is also =
     )
 
 pub found_as : (text : List ℕ) (parts : Parts) (b : BaseRecord) (s : Seal) → b ≡ record_of parts → s ≡ seal_of parts
-    → refusal_of text ≡ None → IsReadFrom (said_by nothing (cut_of text).segments) parts → Is894 b s text
+    → refusal_of text ≡ None → IsReadFrom (said_by judged nothing (cut_of text).segments) parts → Is894 b s text
 found_as text parts b s eb es e r =
     subst (λ (u : Seal). Is894 b u text) (sym es) (subst (λ (u : BaseRecord). Is894 u (seal_of parts) text) (sym eb) (found text parts e r))

@@ -1,25 +1,10 @@
 -- What the reader of a base record hands on: from the segments one by one to the parts of the record.
-use Rattle.std.specs.Prelude.{◌≡◌, ℕ, List, [], ◌∷◌, Option, Some, Result, Ok, Err}
-use Rattle.segments.specs.Views.{Seg}
+use Rattle.std.specs.Prelude.{◌≡◌, Some}
 use Rattle.segments.specs.Closing.{IsClosed}
-use Rattle.segments.specs.declared.segment_fault.SegmentFault.{SegmentFault}
-use Rattle.segments.specs.declared.set_fault.SetFault.{SetFault}
-use Rattle.segments.specs.declared.set_fault.SetFault.TheVariants as errors
-use Rattle.segments.specs.declared.set_fault.SetReason.TheVariants as reasons
 use Rattle.segments.specs.declared.seal.Seal.{Seal}
 use Rattle.base_record_894.specs.BaseRecord.{BaseRecord}
-use Rattle.base_record_894.specs.Said.{Said, after}
+use Rattle.base_record_894.specs.Said.{Said}
 use Rattle.base_record_894.specs.declared.parts.Parts.{Parts}
-
--- the next segment, or its refusal at the place where it starts
-abbrev pub segment_at : ℕ → Result (Option Seg) SegmentFault → Result (Option Seg) SetFault
-segment_at place (Ok next) = Ok next
-segment_at place (Err fault) = Err (errors.Refused place (reasons.Segment fault))
-
--- what these segments say too
-abbrev pub said_by : Said → List Seg → Said
-said_by m [] = m
-said_by m (seg ∷ segs) = said_by (after m seg) segs
 
 -- what was read is what was said
 pub record IsReadFrom (m : Said) (parts : Parts) : Type 0 where

@@ -3,7 +3,7 @@ use Rattle.std.specs.Prelude.{◌≡◌, ◌≤◌, ℕ, List, length, All, Ok}
 use Rattle.dsd_pricing.specs.Pricing.{quantities, totals_of}
 use Rattle.dsd_values.specs.declared.limits.TheConstants.{SET_BYTES}
 use Rattle.segments.specs.Views.{Seg}
-use Rattle.segments.specs.SegmentSpelling.{IsSegment, Spells, SpellsSegments}
+use Rattle.segments.specs.SegmentSpelling.{IsLongSegment, SpellsSegments}
 use Rattle.segments.specs.Grammar.{IsSound}
 use Rattle.segments.specs.declared.seal.Seal.{Seal}
 use Rattle.base_record_894.specs.BaseRecord.{BaseRecord}
@@ -19,11 +19,6 @@ pub record Is894 (base : BaseRecord) (seal : Seal) (text : List ℕ) : Type 0 wh
   pub shape : AreSegments base seal amount segments
   pub sound : IsSound base.lines base.extras
   pub short : length text ≤ SET_BYTES
-
--- a segment of any length in its spelling
-pub record IsLongSegment (seg : Seg) : Type 0 where
-  pub segment : IsSegment seg.parts
-  pub spelled : Spells seg.parts seg.bytes
 
 -- Some segments say the record, however long they are: the records that a text spells, lengths aside.
 pub record IsBase (base : BaseRecord) : Type 0 where

@@ -3,6 +3,8 @@ use dsd_values::Kept;
 use segments::{SetFault, SetReason};
 use std::test::Fail;
 
+mod limits;
+
 /// Two lines: 12 at 1.25 and 3 at .3333.
 const DELIVERY: &[u8] =
     b"ST*894*0001\r\nG82*D*100001*****20240229\r\nLS*0100\r\nG83*1*12*EA*012345678905****1.25\r\nG83*2*3*EA*012345678912****.3333\r\nLE*0100\r\nG84*15*1600\r\nG86*JONES\r\nG85*C60A\r\nSE*10*0001\r\n";

@@ -6,6 +6,8 @@ pub mod Rest
 pub mod Back
 pub mod Forth
 pub mod Keeps
+pub mod Reading
+pub mod Whole
 pub mod Trimmed
 pub mod Parted
 pub mod Scan

@@ -45,6 +45,11 @@ IsEnding ending = (ending ≡ 10 ∷ []) ⊎ (ending ≡ 13 ∷ 10 ∷ [])
 abbrev pub Spells : List (List ℕ) → List ℕ → Type 0
 Spells parts bytes = (ending : List ℕ) × IsEnding ending × (bytes ≡ join_with_byte 42 parts ++ ending)
 
+-- a segment in its spelling, however long it is
+pub record IsLongSegment (seg : Seg) : Type 0 where
+  pub segment : IsSegment seg.parts
+  pub spelled : Spells seg.parts seg.bytes
+
 -- a segment in its spelling, of at most 512 bytes (this profile)
 pub record SpellsSegment (seg : Seg) : Type 0 where
   pub segment : IsSegment seg.parts

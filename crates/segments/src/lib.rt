@@ -29,13 +29,13 @@ mod writing_laws;
 
 pub use allowance::read_allowance;
 pub use course::Course;
-pub use elements::{in_element, tail_at, word_at};
+pub use elements::{check_at, end_of_elements, in_element, tail_at, word_at};
 pub use item::read_item;
 pub use item_fault::ItemFault;
 pub use kind::{Form, Kind, head_id, is_start_of};
 pub use laws::{order_is_the_grammar, segments_are_those_spelled, segments_stand_in_their_text};
 pub use phase::Phase;
-pub use refusing::{at, not_yet, refuse};
+pub use refusing::{at, next_segment, not_yet, refuse};
 pub use seal::Seal;
 pub use segment::{SEGMENT_BYTES, SEGMENT_ELEMENTS, Segment};
 pub use segment_fault::SegmentFault;

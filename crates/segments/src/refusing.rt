@@ -1,11 +1,15 @@
 //! Refusals at a segment.
 
-ghost use Rattle.std.specs.Prelude.{◌≡◌, Err};
+ghost use Rattle.std.specs.Prelude.{◌≡◌, Err, IfOk, IfSome};
+ghost use Rattle.segments.specs.Refusal.{segment_at};
+ghost use Rattle.segments.specs.SegmentCut.{left_after, next_of};
+ghost use Rattle.segments.specs.SegmentSpelling.{IsFront};
 ghost use Rattle.segments.specs.Views.{element_of};
 ghost use Rattle.segments.specs.Reasons.{at_segment};
 
 use crate::item_fault::ItemFault;
 use crate::segment::Segment;
+use crate::segment_reader::SegmentReader;
 use crate::set_fault::{SetFault, SetReason};
 use dsd_values::read_word;
 
@@ -39,5 +43,23 @@ pub fn not_yet<T>(segment: &Segment<'_>) -> Result<T, SetFault>
     match read_word(segment.id()) {
         Ok(id) => refuse(segment, SetReason::NotYet(id)),
         Err(_) => unreachable!(),
+    }
+}
+
+/// The next segment, or its refusal at the place where it starts.
+pub fn next_segment<'a>(
+    segments: &mut SegmentReader<'a>,
+    place: usize,
+) -> Result<Option<Segment<'a>>, SetFault>
+    ensures answer { result ≡ segment_at place (next_of segments.old) }
+    ensures left { segments.new ≡ left_after segments.old }
+    ensures front { IfOk result (λ some. IfSome some (λ seg. IsFront seg segments.old segments.new)) }
+{
+    match segments.next() {
+        Ok(segment) => Ok(segment),
+        Err(fault) => Err(SetFault::Refused {
+            place,
+            reason: SetReason::Segment(fault),
+        }),
     }
 }
