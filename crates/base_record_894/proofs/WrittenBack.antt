@@ -23,7 +23,7 @@ use Rattle.segments.specs.RowsWritten.{SetSoFar, after_writing, first_long, no_r
 use Rattle.segments.specs.declared.segment_write_fault.SegmentWriteFault.{SegmentWriteFault}
 use Rattle.segments.specs.declared.segment_write_fault.SegmentWriteFault.TheVariants.{Memory, LongSegment as SegmentLong}
 use Rattle.segments.proofs.Rows.{all_back, all_front, long_rows, then_rows, was_written, were_written}
-use Rattle.segments.specs.SegmentSpelling.{IsSegment}
+use Rattle.segments.specs.SegmentSpelling.{IsLongSegment, IsSegment}
 use Rattle.segments.specs.SegmentWriting.{IsLine, segment_of, segments_of, text_of}
 use Rattle.segments.specs.SetWriting.{Row, body_rows, control_text, kept_row, sealed, sealing_rows, start_row}
 use Rattle.segments.specs.declared.kind.Form.TheVariants as forms
@@ -37,7 +37,7 @@ use Rattle.segments.proofs.SealedRows.{are_lines, are_sealable, sealing_segments
 use Rattle.segments.proofs.Written.{lines_spelled}
 use Rattle.base_record_894.specs.BaseRecord.{BaseRecord, amount_of}
 use Rattle.base_record_894.specs.Grammar.{AreSegments, FromHead, FromStart, IsHead, shared_of}
-use Rattle.base_record_894.specs.RecordText.{Is894, IsBase, IsLongSegment}
+use Rattle.base_record_894.specs.RecordText.{Is894, IsBase}
 use Rattle.base_record_894.specs.WrittenText.{after_price, head_elements, head_row, later_rows, opened_rows, rows_of, seal_of, stated_totals, unless_too_long, whole, written_of}
 use Rattle.base_record_894.proofs.Amounts.{totals_priced}
 
