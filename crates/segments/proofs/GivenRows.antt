@@ -86,12 +86,6 @@ still_few start now elements count g inside few =
     let taken = length-take count elements in
     omega arith
 
--- two lists of elements, one after another
-pub given_both : (old mid new : Written) (first second : List (List ℕ)) → mid ≡ with_elements first old → new ≡ with_elements second mid → new ≡ with_elements (first ++ second) old
-given_both old mid new first second m n =
-    n ∙ ap (with_elements second) m
-    ∙ ap (λ (l : List (List ℕ)). seen old.text (Some l)) (append_assoc (parts_of_begun old.begun) first second)
-
 -- the element at a place of a list of slices
 pub slice_at : (slices : List (Bor (List ℕ))) (place : ℕ) (d : Bor (List ℕ)) → place < length slices → (get_or slices place d).now ≡ get_or (map (λ (e : Bor (List ℕ)). e.now) slices) place []
 slice_at slices place d inside = sym (get_or-map (λ (e : Bor (List ℕ)). e.now) slices place d [] inside)

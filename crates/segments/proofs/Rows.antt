@@ -166,9 +166,6 @@ rows_at rows_of xs place x is inside all =
 abbrev pub IsLeftOf : {X : Type 0} → (X → Row) → List X → SetSoFar → ℕ → SetSoFar → Type 0
 IsLeftOf row xs start place now = IsLeft (λ x. row x ∷ []) xs start place now
 
-pub all_left : {X : Type 0} (rows_of : X → List Row) (xs : List X) (start : SetSoFar) → IsLeft rows_of xs start 0 start
-all_left rows_of xs start = refl
-
 -- none is left
 pub none_left : {X : Type 0} (rows_of : X → List Row) (xs : List X) (start now : SetSoFar) (place : ℕ) (answer : Answer) → IsLeft rows_of xs start place now → length xs ≤ place → answer ≡ Ok now → Answers answer (after_writing (flat_map rows_of xs) start)
 none_left {X} rows_of xs start now place answer left all e =
@@ -176,16 +173,6 @@ none_left {X} rows_of xs start now place answer left all e =
 
 pub one_each : {X : Type 0} (row : X → Row) (xs : List X) (start : SetSoFar) (answer : Answer) → Answers answer (after_writing (flat_map (λ (x : X). row x ∷ []) xs) start) → Answers answer (after_writing (map row xs) start)
 one_each row xs start answer h = subst (λ (rows : List Row). Answers answer (after_writing rows start)) (flat_map_single row xs) h
-
--- ---- three kinds of rows, one after another
-
-pub three_written : (a b more : List Row) (old m n : SetSoFar) (first second third : Answer) → first ≡ Ok m → Answers first (after_writing a old) → second ≡ Ok n → Answers second (after_writing b m)
-    → Answers third (after_writing more n) → Answers third (after_writing (a ++ (b ++ more)) old)
-three_written a b more old m n first second third e h f g k = both_written a (b ++ more) old m first third e h (both_written b more m n second third f g k)
-
-pub second_refused : (a b more : List Row) (old m : SetSoFar) (first second third : Answer) (fault : SegmentWriteFault) → first ≡ Ok m → Answers first (after_writing a old) → second ≡ Err fault → third ≡ Err fault → Answers second (after_writing b m)
-    → Answers third (after_writing (a ++ (b ++ more)) old)
-second_refused a b more old m first second third fault e h f g k = both_written a (b ++ more) old m first third e h (first_refused b more m second third fault f g k)
 
 -- a loop is there where there are lines
 pub loop_is : (form : Form) (lines : List Line) → 0 < length lines → loop_rows form lines ≡ loop_start_row ∷ (flat_map (line_rows form) lines ++ loop_end_row ∷ [])

@@ -1,9 +1,8 @@
 //! The rows of a set, written one after another.
 
-ghost use Rattle.std.specs.Prelude.{◌≡◌, ◌+◌, ◌<◌, ◌≤◌, [], ◌∷◌, ◌++◌, All, IfOk, ℕ, List, length, map, replicate};
+ghost use Rattle.std.specs.Prelude.{◌≡◌, [], ◌∷◌, All, IfOk, map};
 ghost use Rattle.std.specs.List.{flat_map};
 ghost use Rattle.dsd_values.specs.Answers.{UnlessMemory};
-ghost use Rattle.dsd_values.specs.Reading.{IsElementText};
 ghost use Rattle.segments.specs.RowsWritten.{after_writing, no_rows, text_after};
 ghost use Rattle.segments.specs.SegmentSpelling.{IsSegment};
 ghost use Rattle.segments.specs.SegmentWriting.{IsWrittenText};
