@@ -79,6 +79,9 @@ not_refused text b s is =
     let o = only text b s is in
     ap (λ (f : Option SegmentFault). refusal_from judged nothing 0 (cut_of text).segments f) o.1 ∙ o.0.none
 
+pub refused_not : (text : List ℕ) (refusal : Refusal) (b : BaseRecord) (s : Seal) → refusal_of text ≡ Some refusal → Is894 b s text → ⊥
+refused_not text refusal b s e is = let never : Some refusal ≡ None = sym e ∙ not_refused text b s is in cc
+
 -- the answers of a call that was refused
 pub only_err : {X Y : Type 0} (text : List ℕ) (e : SetFault) (r : Result X SetFault) (b : BaseRecord) (s : Seal) (P : Y → Type 0) (Q : X → Type 0) → r ≡ Err e → Answers (Err e) (refusal_of text) P
     → Is894 b s text → Answers r None Q
