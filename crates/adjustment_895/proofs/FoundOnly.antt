@@ -207,20 +207,33 @@ some_head : (h : Option Head) (head : Head) → Some head ≡ h → has_head h �
 some_head (Some h) head e = refl
 some_head None head e = cc
 
-found_rest : (segs : List Seg) (m : Said) (before : List Seg) (place : ℕ) (fault : Option SegmentFault) (parts : Parts) → IsAt before m.course → refusal_from judged m place segs fault ≡ None
-    → IsReadFrom (said_by judged m segs) parts → (said_by judged m segs).course.extras ≡ [] → notes (first_note parts.closed.references.items) ≡ parts.closed.references.items
-    → Rest895 m.course.phase m (answer_of parts) (seal_of parts) before segs
+-- what was said to the end is this answer
+pub record IsWhole (from : Phase) (m : Said) (a : AnswerRecord) (s : Seal) : Type 0 where
+  pub done : is_done from ≡ true
+  pub head : Some (head_of a) ≡ m.head
+  pub read : Read m.course (shared_of a s)
+  pub totals : (shared_of a s).totals ≡ m.course.totals
+  pub signature : a.signature ≡ m.course.signature
+  pub check : s.check ≡ m.course.integrity
+
+found_rest : (segs : List Seg) (m : Said) (before : List Seg) (place : ℕ) (fault : Option SegmentFault) (a : AnswerRecord) (s : Seal) → IsAt before m.course → refusal_from judged m place segs fault ≡ None
+    → IsWhole phases.Done (said_by judged m segs) a s → Rest895 m.course.phase m a s before segs
 unfolding kept kept_by
-found_rest [] m before place fault parts at e r x n =
+found_rest [] m before place fault a s at e w =
     let whole = and_both _ _ (ended_none _ place fault e).0 in
     let done = done_is m.course.phase whole.0 in
-    subst (λ (p : Phase). Rest895 p m (answer_of parts) (seal_of parts) before []) done
-    (sym r.head, ((n ∙ r.closed.references, r.closed.lines, sym x, r.closed.control), r.closed.totals, r.closed.signature, r.closed.check, refl))
-found_rest (seg ∷ segs) m before place fault parts at e r x note =
+    subst (λ (p : Phase). Rest895 p m a s before []) done (w.head, (w.read, w.totals, w.signature, w.check, refl))
+found_rest (seg ∷ segs) m before place fault a s at e w =
     let n = refused_none (reason_of m seg) seg.start _ e in
     let st = stands m seg n.0 in
-    let rest = found_rest segs (after m seg) (before ++ seg ∷ []) (seg.start + length seg.bytes) fault parts (at_after m before seg at) n.1 r x note in
-    back m (answer_of parts) (seal_of parts) before seg segs (m.course.count + 1) (crc_from m.course.check seg.bytes) m.course.phase (kind_of forms.Answer seg) st.may.moves_on refl refl st.right at rest
+    let rest = found_rest segs (after m seg) (before ++ seg ∷ []) (seg.start + length seg.bytes) fault a s (at_after m before seg at) n.1 w in
+    back m a s before seg segs (m.course.count + 1) (crc_from m.course.check seg.bytes) m.course.phase (kind_of forms.Answer seg) st.may.moves_on refl refl st.right at rest
+
+-- what holds where nothing has come
+begin_holds : Holds nothing
+begin_holds =
+    let none : 0 ≤ MOST_LINES = omega arith in
+    record { sound = (tt, none, All-nil HasExtras, no_extras false); level = refl; note = refl; none = refl }
 
 -- what holds where the set is whole
 done_levelled : (phase : Phase) (lines : List Line) (level : ℕ) → is_done phase ≡ true → Levelled phase lines level → IsLevelled lines level
@@ -237,29 +250,97 @@ shaped segs a s (texts, lines, extras, (r, l, x), shape) =
     let two = subst (λ (t : List Line). FromStart (notes a.note) t extras a s [] segs) (sym l) one in
     subst (λ (t : List Extra). FromStart (notes a.note) a.lines t a s [] segs) (sym x) two
 
--- What is read is an answer.
-pub found : (text : List ℕ) (parts : Parts) → refusal_from judged nothing 0 (cut_of text).segments (cut_of text).fault ≡ None → IsReadFrom (said_by judged nothing (cut_of text).segments) parts
-    → Is895 (answer_of parts) (seal_of parts) text
-found text parts e r =
+-- What is not refused is the answer that it says.
+pub found_so : (text : List ℕ) (a : AnswerRecord) (s : Seal) → refusal_from judged nothing 0 (cut_of text).segments (cut_of text).fault ≡ None
+    → IsWhole phases.Done (said_by judged nothing (cut_of text).segments) a s → Is895 a s text
+found_so text a s e w =
     let segs = (cut_of text).segments in
     let whole : SpellsSegments 0 segs text = spelled_of-cut text segs (ap (λ (f : Option SegmentFault). record { segments = segs; fault = f }) (no_fault judged segs nothing 0 (cut_of text).fault e)) in
-    let none : 0 ≤ MOST_LINES = omega arith in
     let zero_in : 0 ≤ SET_BYTES = omega arith in
-    let ends = whole_end segs nothing 0 (cut_of text).fault e (record { sound = (tt, none, All-nil HasExtras, no_extras false); level = refl; note = refl; none = refl }) zero_in in
+    let ends = whole_end segs nothing 0 (cut_of text).fault e begin_holds zero_in in
     let m = said_by judged nothing segs in
-    let note : notes (first_note parts.closed.references.items) ≡ parts.closed.references.items =
-    subst (λ (u : List (List ℕ)). notes (first_note u) ≡ u) (sym r.closed.references) (done_noted m.course.phase m.course.references ends.2 ends.0.note) in
     let level : IsLevelled m.course.lines (level_in m.head) = done_levelled m.course.phase m.course.lines (level_in m.head) ends.2 ends.0.level in
-    let there : IsLevelled m.course.lines parts.head.level = subst (λ (h : Option Head). IsLevelled m.course.lines (level_in h)) r.head level in
+    let there : IsLevelled m.course.lines a.level = subst (λ (h : Option Head). IsLevelled m.course.lines (level_in h)) (sym w.head) level in
     let end : end_of 0 segs ≡ 0 + length text = end_at segs 0 text whole in
     record {
       segments = segs;
       spelled = whole;
-      shape = shaped segs (answer_of parts) (seal_of parts) (found_rest segs nothing [] 0 (cut_of text).fault parts (refl, refl) e r ends.0.none note);
-      sound = subst (λ (t : List Line). IsSound t []) (sym r.closed.lines) (subst (λ (x : List Extra). IsSound m.course.lines x) ends.0.none (is_sound _ _ ends.0.sound));
-      levelled = subst (λ (t : List Line). IsLevelled t parts.head.level) (sym r.closed.lines) there;
+      shape = shaped segs a s (found_rest segs nothing [] 0 (cut_of text).fault a s (refl, refl) e w);
+      sound = subst (λ (t : List Line). IsSound t []) (sym w.read.1) (subst (λ (x : List Extra). IsSound m.course.lines x) ends.0.none (is_sound _ _ ends.0.sound));
+      levelled = subst (λ (t : List Line). IsLevelled t a.level) (sym w.read.1) there;
       short = omega (arith, end, ends.1);
     }
+
+-- what holds of what was said to the end
+said_holds : (text : List ℕ) → refusal_from judged nothing 0 (cut_of text).segments (cut_of text).fault ≡ None
+    → (notes (first_note (said_by judged nothing (cut_of text).segments).course.references) ≡ (said_by judged nothing (cut_of text).segments).course.references)
+    × ((said_by judged nothing (cut_of text).segments).course.extras ≡ [])
+said_holds text e =
+    let zero_in : 0 ≤ SET_BYTES = omega arith in
+    let ends = whole_end (cut_of text).segments nothing 0 (cut_of text).fault e begin_holds zero_in in
+    let m = said_by judged nothing (cut_of text).segments in
+    (done_noted m.course.phase m.course.references ends.2 ends.0.note, ends.0.none)
+
+-- What is read is an answer.
+pub found : (text : List ℕ) (parts : Parts) → refusal_from judged nothing 0 (cut_of text).segments (cut_of text).fault ≡ None → IsReadFrom (said_by judged nothing (cut_of text).segments) parts
+    → Is895 (answer_of parts) (seal_of parts) text
+found text parts e r =
+    let h = said_holds text e in
+    let note : notes (first_note parts.closed.references.items) ≡ (said_by judged nothing (cut_of text).segments).course.references =
+    ap (λ (u : List (List ℕ)). notes (first_note u)) r.closed.references ∙ h.0 in
+    found_so text (answer_of parts) (seal_of parts) e (record {
+      done = refl;
+      head = sym r.head;
+      read = (note, r.closed.lines, sym h.1, r.closed.control);
+      totals = r.closed.totals;
+      signature = r.closed.signature;
+      check = r.closed.check;
+    })
+
+-- the answer that was said, with this head
+abbrev pub answer_in : Head → SoFar → AnswerRecord
+answer_in h m = record {
+  role = h.role;
+  flag = h.flag;
+  number = h.number;
+  check = h.check;
+  level = h.level;
+  receiver_number = h.receiver_number;
+  note = first_note m.references;
+  lines = m.lines;
+  quantity = m.totals.quantity;
+  amount = m.totals.amount;
+  deposit = m.totals.deposit;
+  signature = m.signature;
+}
+
+head_there : (h : Option Head) → has_head h ≡ true → (head : Head) × (Some head ≡ h)
+head_there (Some head) e = (head, refl)
+head_there None e = cc
+
+whole_head : (segs : List Seg) (m : Said) (place : ℕ) (fault : Option SegmentFault) → refusal_from judged m place segs fault ≡ None → has_head (said_by judged m segs).head ≡ true
+whole_head [] m place fault e = (and_both _ _ (ended_none _ place fault e).0).1
+whole_head (seg ∷ segs) m place fault e = whole_head segs (after m seg) _ fault (refused_none (reason_of m seg) seg.start _ e).1
+
+-- What is not refused is some answer.
+pub some_answer : (text : List ℕ) → refusal_from judged nothing 0 (cut_of text).segments (cut_of text).fault ≡ None → (a : AnswerRecord) × (s : Seal) × Is895 a s text
+some_answer text e =
+    let segs = (cut_of text).segments in
+    let m = (said_by judged nothing segs).course in
+    let h = head_there (said_by judged nothing segs).head (whole_head segs nothing 0 (cut_of text).fault e) in
+    let held = said_holds text e in
+    let seal : Seal = record { control = m.control; check = m.integrity } in (
+      answer_in h.0 m,
+      seal,
+      found_so text (answer_in h.0 m) seal e (record {
+        done = refl;
+        head = h.1;
+        read = (held.0, refl, sym held.1, refl);
+        totals = refl;
+        signature = refl;
+        check = refl;
+      }),
+    )
 
 -- ---- what is the rest of an answer stands to the end
 
@@ -278,14 +359,6 @@ pub record IsReadSo (m : Said) (a : AnswerRecord) (s : Seal) (place : ℕ) (segs
   pub totals : (shared_of a s).totals ≡ (said_by judged m segs).course.totals
   pub signature : a.signature ≡ (said_by judged m segs).course.signature
   pub check : s.check ≡ (said_by judged m segs).course.integrity
-
-record IsWhole (from : Phase) (m : Said) (a : AnswerRecord) (s : Seal) : Type 0 where
-  done : is_done from ≡ true
-  head : Some (head_of a) ≡ m.head
-  read : Read m.course (shared_of a s)
-  totals : (shared_of a s).totals ≡ m.course.totals
-  signature : a.signature ≡ m.course.signature
-  check : s.check ≡ m.course.integrity
 
 at_end : (from : Phase) (m : Said) (a : AnswerRecord) (s : Seal) (before : List Seg) → Rest895 from m a s before [] → IsWhole from m a s
 at_end phases.Start m a s before (texts, lines, extras, left, rest) = absurd rest

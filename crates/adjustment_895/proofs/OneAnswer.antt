@@ -81,6 +81,9 @@ not_refused text a s is =
     let o = only text a s is in
     ap (λ (f : Option SegmentFault). refusal_from judged nothing 0 (cut_of text).segments f) o.1 ∙ o.0.none
 
+pub refused_not : (text : List ℕ) (refusal : Refusal) (a : AnswerRecord) (s : Seal) → refusal_of text ≡ Some refusal → Is895 a s text → ⊥
+refused_not text refusal a s e is = let never : Some refusal ≡ None = sym e ∙ not_refused text a s is in cc
+
 -- the answers of a call that was refused
 pub only_err : {X Y : Type 0} (text : List ℕ) (e : SetFault) (r : Result X SetFault) (a : AnswerRecord) (s : Seal) (P : Y → Type 0) (Q : X → Type 0) → r ≡ Err e → Answers (Err e) (refusal_of text) P
     → Is895 a s text → Answers r None Q
@@ -107,8 +110,7 @@ one text a b s t is also =
     let p = (only text b t also).0 in
     let some : Some (head_of a) ≡ Some (head_of b) = o.head ∙ sym p.head in
     let head : head_of a ≡ head_of b = cc (some) in
-    let note : a.note ≡ b.note = sym (note_is a.note) ∙ ap first_note (o.references ∙ sym p.references) ∙ note_is b.note in
-    (
+    let note : a.note ≡ b.note = sym (note_is a.note) ∙ ap first_note (o.references ∙ sym p.references) ∙ note_is b.note in (
       same_answer a b head note (o.lines ∙ sym p.lines) (o.totals ∙ sym p.totals) (o.signature ∙ sym p.signature),
       same_seal s t (o.control ∙ sym p.control) (o.check ∙ sym p.check),
     )

@@ -7,9 +7,7 @@ ghost use Rattle.adjustment_895.specs.AnswerText.{IsAnswer};
 
 use crate::head::Head;
 use crate::parts::Parts;
-use dsd_values::{
-    Cents, Check, DeliveryNumber, Flag, Kept, Level, Lines, Role, Signature, Word,
-};
+use dsd_values::{Cents, Check, DeliveryNumber, Flag, Kept, Level, Lines, Role, Signature, Word};
 use segments::{Closed, Seal, StatedTotals};
 use std::marker::Model;
 

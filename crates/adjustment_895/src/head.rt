@@ -68,9 +68,7 @@ pub fn is_past_levels(text: &[u8]) -> bool
     ensures { result ≡ past_levels text.now }
 {
     match text {
-        [first, second] => {
-            first.is_ascii_digit() && second.is_ascii_digit() && *first != b'0'
-        }
+        [first, second] => { first.is_ascii_digit() && second.is_ascii_digit() && *first != b'0' }
         _ => false,
     }
 }
