@@ -3,3 +3,4 @@ pub mod Moves
 pub mod FoundOnly
 pub mod OneRecord
 pub mod Totalled
+pub mod WrittenBack

@@ -5,3 +5,4 @@ pub mod RecordText
 pub mod Said
 pub mod FirstRefusal
 pub mod ReadParts
+pub mod WrittenText

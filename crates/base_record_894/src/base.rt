@@ -5,6 +5,7 @@ ghost use Rattle.dsd_pricing.specs.Pricing.{priced, quantities as sum_of_quantit
 ghost use Rattle.base_record_894.specs.BaseRecord.{amount_of as cents_of_rows};
 ghost use Rattle.base_record_894.specs.ReadParts.{record_of, seal_of};
 ghost use Rattle.base_record_894.specs.RecordText.{IsBase};
+ghost use Rattle.base_record_894.specs.WrittenText.{stated_totals};
 
 use crate::head::Head;
 use crate::notes::Notes;
@@ -12,7 +13,7 @@ use crate::parts::Parts;
 use crate::rows::quantities;
 use dsd_pricing::amount_of;
 use dsd_values::{Cents, Day, DeliveryNumber, Extras, Flag, Kept, Lines, Memory, Signature, Word};
-use segments::{Closed, Seal};
+use segments::{Closed, Seal, StatedTotals};
 use std::alloc::Global;
 use std::marker::Model;
 
@@ -142,6 +143,18 @@ impl Base {
         match amount_of(self.lines.as_slice(), self.extras.as_slice()) {
             Ok(totals) => totals.amount,
             Err(_) => unreachable!(),
+        }
+    }
+
+    /// The totals that it states.
+    pub(crate) fn stated(&self) -> StatedTotals
+        ensures value { result ≡ stated_totals self.now }
+        ensures spelled { IsBase self.now }
+    {
+        StatedTotals {
+            quantity: self.quantity(),
+            amount: self.amount(),
+            deposit: self.deposit,
         }
     }
 

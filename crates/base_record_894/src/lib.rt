@@ -1,4 +1,4 @@
-//! Set 894, the base record of a delivery: read with place and reason.
+//! Set 894, the base record of a delivery: read with place and reason, and written.
 #![tactic(auto)]
 
 mod base;
@@ -9,10 +9,14 @@ mod notes;
 mod parts;
 mod reader;
 mod rows;
+mod writing;
+mod writing_laws;
 
 pub use base::Base;
 pub use from_text::read_894;
 pub use notes::Notes;
+pub use writing::write_894;
+pub use writing_laws::written_is_read;
 
 #[cfg(test)]
 mod tests;

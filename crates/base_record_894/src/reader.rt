@@ -11,9 +11,7 @@ use crate::head::{Head, read_head};
 use crate::parts::Parts;
 use crate::rows::compare_totals;
 use dsd_values::{Memory, SET_BYTES};
-use segments::{
-    Course, Form, Kind, Phase, Segment, SetFault, SetReason, at, is_start_of, not_yet,
-};
+use segments::{Course, Form, Kind, Phase, Segment, SetFault, SetReason, at, is_start_of, not_yet};
 use std::alloc::Global;
 use std::marker::Model;
 

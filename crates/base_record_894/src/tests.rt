@@ -4,6 +4,7 @@ use segments::{SetFault, SetReason};
 use std::test::Fail;
 
 mod limits;
+mod writing;
 
 /// Two lines: 12 at 1.25 and 3 at .3333.
 const DELIVERY: &[u8] =

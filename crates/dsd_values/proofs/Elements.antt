@@ -13,7 +13,7 @@ use Rattle.dsd_values.proofs.Laws.{number_law}
 use Rattle.dsd_values.proofs.Points.{decimal_read}
 use Rattle.dsd_values.proofs.Refusals.{all_pass, none_outside}
 
-digit_element : (b : ℕ) → IsAsciiDigit b → is_no_element_byte b ≡ false
+pub digit_element : (b : ℕ) → IsAsciiDigit b → is_no_element_byte b ≡ false
 digit_element b h = grind (arith, nat_tests)
 
 check_digit_element : (b : ℕ) → IsCheckDigit b → is_no_element_byte b ≡ false

@@ -20,7 +20,7 @@ use Rattle.dsd_values.proofs.Refusals.{filled_ok, filled_gives, bounded_ok, boun
 
 -- ---- what each test says of a byte
 
-element_passes : (b : ℕ) → is_no_element_byte b ≡ false → IsElementCharacter b
+pub element_passes : (b : ℕ) → is_no_element_byte b ≡ false → IsElementCharacter b
 element_passes b h = ((grind (arith, nat_tests), grind (arith, nat_tests)), grind (arith, nat_tests))
 
 pub element_fails : (b : ℕ) → IsElementCharacter b → is_no_element_byte b ≡ false

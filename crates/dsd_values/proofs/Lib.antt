@@ -8,3 +8,4 @@ pub mod Laws
 pub mod ReadBack
 pub mod Elements
 pub mod Behinds
+pub mod Again

@@ -18,7 +18,7 @@ use Rattle.dsd_values.proofs.Points.{decimal_spelled}
 is_digit : (c : ℕ) → digit_value c < 10 → IsAsciiDigit c
 is_digit c h = (grind (arith, nat_tests), grind (arith, nat_tests))
 
-all_are : (text : List ℕ) → AllDigits 10 text → All IsAsciiDigit text
+pub all_are : (text : List ℕ) → AllDigits 10 text → All IsAsciiDigit text
 all_are [] h = All-nil IsAsciiDigit
 all_are (c ∷ cs) h = All-cons IsAsciiDigit c cs (is_digit c h.0) (all_are cs h.1)
 

@@ -51,7 +51,7 @@ pub use signature::Signature;
 pub use word::{Word, read_filled_word, read_word, read_word_between};
 pub use writers::{
     write_cents, write_check, write_cost, write_day, write_dsd, write_level, write_percent,
-    write_quantity, write_total_quantity,
+    write_plain_number, write_quantity, write_total_quantity,
 };
 
 #[cfg(test)]

@@ -6,7 +6,7 @@ ghost use Rattle.std.specs.Int.{to_be_bytes, w16};
 ghost use Rattle.arrayvec.specs.ArrayVec.{array_vec_len};
 ghost use Rattle.hex.specs.Hex.{encode_lower};
 ghost use Rattle.dsd_values.specs.Calendar.{day_of};
-ghost use Rattle.dsd_values.specs.Reading.{IsElementText, cents_of, check_of, cost_of, dsd_of, level_of, number_of, percent_of, quantity_of, total_quantity_of};
+ghost use Rattle.dsd_values.specs.Reading.{IsElementText, cents_of, check_of, cost_of, dsd_of, level_of, number_of, percent_of, plain_number_of, quantity_of, total_quantity_of};
 ghost use Rattle.dsd_values.specs.Writing.{check_text, cost_text, day_text, decimal_text, decimals_text, number_text, percent_text, two_digits};
 
 use crate::cents::Cents;
@@ -45,6 +45,18 @@ pub fn write_total_quantity(value: u32) -> ArrayVec<u8, 24>
     ensures element { IsElementText result.items }
 {
     write_number(u64::from(value))
+}
+
+/// Any number in digits.
+#[tactic(auto, using(crate::proofs::Again::twenty_digits, crate::proofs::Again::plain_read_back, crate::proofs::Again::decimal_text_element))]
+pub fn write_plain_number(value: u64) -> ArrayVec<u8, 24>
+    ensures text { result.items ≡ number_text value }
+    ensures read_back { value < 10 ^ 15 → plain_number_of result.items ≡ Ok value }
+    ensures element { IsElementText result.items }
+{
+    let mut text = ArrayVec::new();
+    push_number(&mut text, value);
+    text
 }
 
 /// The cost in units of money, with up to four decimals.

@@ -119,9 +119,10 @@ module _ (form : Form) (m : SoFar) (t : Shared) (before : List Seg) (seg : Seg) 
   allowance_inside : From phases.Items kinds.Allowance
   unfolding kept
   allowance_inside p k e at (inside, lines, extras, (r, l, x, c), rest) =
-      let i : in_line m.phase ≡ true = ap in_line p in
-      (
-        Allow (allowance_in seg) ∷ inside, lines, extras,
+      let i : in_line m.phase ≡ true = ap in_line p in (
+        Allow (allowance_in seg) ∷ inside,
+        lines,
+        extras,
         (r, inside_is kinds.Allowance inside lines _ i refl l, kept_beside kinds.Allowance extras i refl x, c),
         ((k, allowance_is true i e), rest),
       )
@@ -129,9 +130,10 @@ module _ (form : Form) (m : SoFar) (t : Shared) (before : List Seg) (seg : Seg) 
   line_note_inside : From phases.Items kinds.LineNote
   unfolding kept
   line_note_inside p k e at (inside, lines, extras, (r, l, x, c), rest) =
-      let i : in_line m.phase ≡ true = ap in_line p in
-      (
-        Note (kept_text seg) ∷ inside, lines, extras,
+      let i : in_line m.phase ≡ true = ap in_line p in (
+        Note (kept_text seg) ∷ inside,
+        lines,
+        extras,
         (r, inside_is kinds.LineNote inside lines _ i refl l, kept_beside kinds.LineNote extras i refl x, c),
         ((ap (is_note true) k, refl), rest),
       )
@@ -139,9 +141,10 @@ module _ (form : Form) (m : SoFar) (t : Shared) (before : List Seg) (seg : Seg) 
   note_inside : From phases.Items kinds.Note
   unfolding kept
   note_inside p k e at (inside, lines, extras, (r, l, x, c), rest) =
-      let i : in_line m.phase ≡ true = ap in_line p in
-      (
-        Note (kept_text seg) ∷ inside, lines, extras,
+      let i : in_line m.phase ≡ true = ap in_line p in (
+        Note (kept_text seg) ∷ inside,
+        lines,
+        extras,
         (r, inside_is kinds.Note inside lines _ i refl l, kept_beside kinds.Note extras i refl x, c),
         ((ap (is_note true) k, refl), rest),
       )

@@ -112,8 +112,7 @@ module _ (form : Form) (m : SoFar) (t : Shared) (before : List Seg) (seg : Seg) 
   allowance_inside_on allowance inside lines extras p (r, l, x, c) ((k, is), rest) =
       let i : in_line m.phase ≡ true = ap in_line p in
       let said : Allow allowance ≡ Allow (allowance_in seg) = ap (λ (a : Allowance). Allow a) (allowance_said true allowance seg is) in
-      let here : t.lines ≡ with_extras (Allow (allowance_in seg) ∷ inside) m.lines ++ lines = l ∙ ap (λ (e : Extra). with_extras (e ∷ inside) m.lines ++ lines) said in
-      (
+      let here : t.lines ≡ with_extras (Allow (allowance_in seg) ∷ inside) m.lines ++ lines = l ∙ ap (λ (e : Extra). with_extras (e ∷ inside) m.lines ++ lines) said in (
         k,
         allowance_none true allowance i is (room_inside allowance inside m.lines lines (subst (λ (u : List Line). All HasExtras u) l sound.behind)),
         (inside, lines, extras, (r, inside_on kinds.Allowance inside lines _ i refl here, extras_on kinds.Allowance true m.extras extras i refl x, c), rest),
@@ -179,8 +178,7 @@ module _ (m : SoFar) (t : Shared) (before : List Seg) (seg : Seg) (segs : List S
   unfolding kept
   allowance_beside_on allowance extras i (r, l, x, c) ((k, is), rest) =
       let said : Allow allowance ≡ Allow (allowance_in seg) = ap (λ (a : Allowance). Allow a) (allowance_said false allowance seg is) in
-      let here : t.extras ≡ (m.extras ++ Allow (allowance_in seg) ∷ []) ++ extras = x ∙ ap (λ (e : Extra). m.extras ++ e ∷ extras) said ∙ sym (append_assoc m.extras (Allow (allowance_in seg) ∷ []) extras) in
-      (
+      let here : t.extras ≡ (m.extras ++ Allow (allowance_in seg) ∷ []) ++ extras = x ∙ ap (λ (e : Extra). m.extras ++ e ∷ extras) said ∙ sym (append_assoc m.extras (Allow (allowance_in seg) ∷ []) extras) in (
         k,
         allowance_none forms.Base m t before seg segs count check sound at false allowance i is (room_beside allowance m.extras extras (subst (λ (u : List Extra). AreExtras false u) x sound.beside).few),
         (extras, (r, lines_on forms.Base m t before seg segs count check sound at kinds.Allowance i refl l, extras_on forms.Base m t before seg segs count check sound at kinds.Allowance false _ extras i refl here, c), rest),

@@ -27,3 +27,11 @@ pub mod Walk
 pub mod RightAllowances
 pub mod EmptyEnds
 pub mod Written
+pub mod GivenRows
+pub mod ControlNumbers
+pub mod Rows
+pub mod PartedTexts
+pub mod RowKinds
+pub mod RowsSay
+pub mod RowsShape
+pub mod SealedRows

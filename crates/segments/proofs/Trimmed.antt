@@ -83,13 +83,13 @@ table_push lines new line stands n table room bare is low same = subst (λ (u : 
     tells : (dsd : ℕ) → dsd < 10000 → get_or (set stands n true) dsd false ≡ has_line dsd (lines ++ line ∷ [])
     tells dsd h = elim (cases_eq line.dsd dsd) [
       | inl here ↦
-        let test : (line.dsd == dsd) ≡ true = grind (arith, nat_tests) in
-        let at : n ≡ dsd = is ∙ here in
-        ap (λ (k : ℕ). get_or (set stands n true) k false) (sym at) ∙ get_or-set_same stands n true false inside
-        ∙ sym (has_last dsd lines line ∙ ap (λ (b : Bool). has_line dsd lines || (b || false)) test ∙ with_itself (has_line dsd lines))
+          let test : (line.dsd == dsd) ≡ true = grind (arith, nat_tests) in
+          let at : n ≡ dsd = is ∙ here in
+          ap (λ (k : ℕ). get_or (set stands n true) k false) (sym at) ∙ get_or-set_same stands n true false inside
+          ∙ sym (has_last dsd lines line ∙ ap (λ (b : Bool). has_line dsd lines || (b || false)) test ∙ with_itself (has_line dsd lines))
       | inr other ↦
-        let test : (line.dsd == dsd) ≡ false = grind (arith, nat_tests) in
-        let apart : dsd ≢ n = λ e. other (sym is ∙ sym e) in
-        get_or-set_other stands n dsd true false apart ∙ table.tells dsd h
-        ∙ sym (has_last dsd lines line ∙ ap (λ (b : Bool). has_line dsd lines || (b || false)) test ∙ with_other (has_line dsd lines))
+          let test : (line.dsd == dsd) ≡ false = grind (arith, nat_tests) in
+          let apart : dsd ≢ n = λ e. other (sym is ∙ sym e) in
+          get_or-set_other stands n dsd true false apart ∙ table.tells dsd h
+          ∙ sym (has_last dsd lines line ∙ ap (λ (b : Bool). has_line dsd lines || (b || false)) test ∙ with_other (has_line dsd lines))
     ]

@@ -21,7 +21,7 @@ use Rattle.segments.proofs.EmptyEnds.{trim_filled, trim_empty, trim_twice, trim_
 no_star_byte : (byte : ℕ) → is_element_character byte ≡ true → is_star byte ≡ false
 no_star_byte byte h = grind (arith, nat_tests)
 
-no_star : (part : List ℕ) → IsPart part → All (λ b. is_star b ≡ false) part
+pub no_star : (part : List ℕ) → IsPart part → All (λ b. is_star b ≡ false) part
 no_star part h = λ k d under. no_star_byte (get_or part k d) (h k d under)
 
 both : (a b : Bool) → (a && b) ≡ true → (a ≡ true) × (b ≡ true)

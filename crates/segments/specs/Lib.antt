@@ -17,3 +17,5 @@ pub mod Order
 pub mod CutSpelling
 pub mod SegmentRefusal
 pub mod SegmentWriting
+pub mod SetWriting
+pub mod RowsWritten

@@ -98,7 +98,8 @@ fn has_id(segment: &Segment<'_>, id: &[u8]) -> bool
     segment.id() == id
 }
 
-fn set_code(form: Form) -> &'static [u8]
+/// The number of the set.
+pub fn set_code(form: Form) -> &'static [u8]
     ensures { result.now ≡ code_of form }
 {
     match form {
@@ -107,7 +108,8 @@ fn set_code(form: Form) -> &'static [u8]
     }
 }
 
-fn head_id(form: Form) -> &'static [u8]
+/// The id of the head.
+pub fn head_id(form: Form) -> &'static [u8]
     ensures { result.now ≡ head_of form }
 {
     match form {
@@ -125,7 +127,8 @@ fn reference_id(form: Form) -> &'static [u8]
     }
 }
 
-fn item_id(form: Form) -> &'static [u8]
+/// The id of an item.
+pub fn item_id(form: Form) -> &'static [u8]
     ensures { result.now ≡ item_of form }
 {
     match form {

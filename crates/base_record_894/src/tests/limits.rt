@@ -56,10 +56,12 @@ fn allowed(alloc: Global, inside: usize, beside: usize) -> Result<Vec<u8>, Fail>
 /// The place at which a text is refused by a limit.
 fn limited(alloc: Global, text: &[u8]) -> Option<usize> {
     match read_894(alloc, text) {
-        Err(SetFault::Refused {
-            place,
-            reason: SetReason::Limit,
-        }) => Some(place),
+        Err(
+            SetFault::Refused {
+                place,
+                reason: SetReason::Limit,
+            },
+        ) => Some(place),
         _ => None,
     }
 }

@@ -1,0 +1,232 @@
+-- What is written of what a segment says is a segment that says the same.
+use Rattle.std.proofs.Common.{◌≡◌, ℕ, zero, suc, ◌+◌, ◌^◌, ◌<◌, ◌≤◌, Bool, true, false, IsTrue, List, [], ◌∷◌, ◌++◌, length, drop, codes, get_or, Option, Some, None, Result, Ok, Err, refl, sym, ◌∙◌, ap, subst, arith, length-append}
+use Rattle.std.specs.List.{All, join_with_byte}
+use Rattle.std.proofs.lemmas.List.Elements.{All-append, All-cons, All-nil}
+use Rattle.dsd_values.specs.Reading.{IsElementText, cents_of, check_of, cost_of, dsd_of, filled_word_of, percent_of, plain_number_of, quantity_of, total_quantity_of, word_between, word_of}
+use Rattle.dsd_values.specs.Writing.{check_text, cost_text, number_text, percent_text}
+use Rattle.dsd_values.specs.declared.allowance.Allowance.{Allowance}
+use Rattle.dsd_values.specs.declared.fault.ValueFault.{ValueFault}
+use Rattle.dsd_values.specs.declared.line.Line.{Line}
+use Rattle.dsd_values.specs.declared.signature.Signature.{Signature}
+use Rattle.dsd_values.proofs.Again.{IsReadAs, check_again, decimal_again, filled_word_again, number_again, plain_read_back, word_again, word_between_again}
+use Rattle.segments.specs.Views.{Seg, element_of}
+use Rattle.segments.specs.Allowances.{IsAllowance}
+use Rattle.segments.specs.Elements.{optional, some_of, tail_from, without_end_stars}
+use Rattle.segments.specs.Grammar.{AreEmpty, IsItem, IsLoopId, IsNoLonger, IsSignature, IsStart, IsTotals}
+use Rattle.segments.specs.Kinds.{item_id, kind_of, set_code}
+use Rattle.segments.specs.SegmentSpelling.{IsPart, IsSegment, is_id}
+use Rattle.segments.specs.SegmentWriting.{segment_of, without_empty_end}
+use Rattle.segments.specs.SetWriting.{Row, allowance_elements, allowance_row, control_text, item_elements, item_row, loop_id, optional_text, parted, row_of, signature_row, start_row, totals_row}
+use Rattle.segments.specs.declared.kind.Form.{Form}
+use Rattle.segments.specs.declared.kind.Form.TheVariants as forms
+use Rattle.segments.specs.declared.stated.StatedTotals.{StatedTotals}
+use Rattle.segments.proofs.ControlNumbers.{control_between, control_element}
+use Rattle.segments.proofs.EmptyEnds.{trim_drop, trim_element, trim_tail}
+use Rattle.segments.proofs.PartedTexts.{IsTail, no_tail, tail_is}
+use Rattle.segments.proofs.Written.{element_part, id_part}
+
+-- ---- elements of a written row
+
+-- the element is read as this value
+pub reads_at : {V : Type 0} (reading : List ℕ → Result V ValueFault) (v : V) (place number : ℕ) (row : Row) → IsReadAs reading v (get_or row number []) → reading (element_of (segment_of place row) number) ≡ Ok v
+reads_at reading v place number row is = ap reading (trim_element row number) ∙ is.read
+
+-- these may all stand in elements
+abbrev AreParts : List (List ℕ) → Type 0
+AreParts [] = Unit {0}
+AreParts (text ∷ more) = IsElementText text × AreParts more
+
+all_parts : (texts : List (List ℕ)) → AreParts texts → All IsPart texts
+all_parts [] h = All-nil IsPart
+all_parts (text ∷ more) h = All-cons IsPart text more (element_part text h.0) (all_parts more h.1)
+
+-- a row is a segment
+pub row_segment : (id : List ℕ) (elements : List (List ℕ)) (tail : List ℕ) (before : ℕ) → IsTrue (is_id id) → AreParts elements → before ≡ length elements + 1 → IsTail before tail → IsSegment (row_of id elements tail)
+row_segment id elements tail before i h size t = record {
+  characters = All-cons IsPart id (elements ++ parted tail) (id_part id i) (All-append IsPart elements (parted tail) (all_parts elements h) t.characters);
+  id = i;
+  few = omega (arith, t.few, length-append elements (parted tail));
+}
+
+-- the tail of a row
+pub tail_again : (place before : ℕ) (row : Row) (tail : List ℕ) → drop before row ≡ parted tail → IsTail before tail → tail_from before (segment_of place row) ≡ tail
+tail_again place before row tail e t = trim_tail before row ∙ ap (λ (l : List (List ℕ)). without_end_stars (join_with_byte 42 l)) e ∙ t.same
+
+-- nothing stands behind the last element
+pub no_longer : (place last : ℕ) (row : Row) → drop (last + 1) row ≡ [] → IsNoLonger last (segment_of place row)
+no_longer place last row e = subst AreEmpty (sym (trim_drop (last + 1) row ∙ ap without_empty_end e)) tt
+
+-- ---- values that may be left out
+
+some_is : {V : Type 0} (r : Result V ValueFault) (v : V) → some_of r ≡ Ok (Some v) → r ≡ Ok v
+some_is (Ok x) v e = cc
+some_is (Err f) v e = cc
+
+none_is : {V : Type 0} (r : Result V ValueFault) → some_of r ≡ Ok None → ⊥
+none_is (Ok x) e = cc
+none_is (Err f) e = cc
+
+none_some : {V : Type 0} (v : V) → (let none : Result (Option V) ValueFault = Ok None in none) ≡ Ok (Some v) → ⊥
+none_some v e = cc
+
+module _ {V : Type 0} (reading : List ℕ → Result V ValueFault) (writing : V → List ℕ) (empty : (v : V) → reading [] ≡ Ok v → ⊥) where
+  optional_some : (text : List ℕ) (v : V) → reading text ≡ Ok v → optional reading text ≡ Ok (Some v)
+  optional_some [] v e = absurd (empty v e)
+  optional_some (byte ∷ more) v e = let some : optional reading (byte ∷ more) ≡ some_of (reading (byte ∷ more)) = grind arith in some ∙ ap some_of e
+
+  some_optional : (text : List ℕ) (v : V) → optional reading text ≡ Ok (Some v) → reading text ≡ Ok v
+  some_optional [] v e = absurd (none_some v e)
+  some_optional (byte ∷ more) v e = let some : optional reading (byte ∷ more) ≡ some_of (reading (byte ∷ more)) = grind arith in some_is (reading (byte ∷ more)) v (sym some ∙ e)
+
+  optional_again : ((v : V) (text : List ℕ) → reading text ≡ Ok v → IsReadAs reading v (writing v)) → (value : Option V) (text : List ℕ) → optional reading text ≡ Ok value → IsReadAs (optional reading) value (optional_text writing value)
+  optional_again again None text e = record { read = refl; element = refl }
+  optional_again again (Some v) text e =
+      let is = again v text (some_optional text v e) in
+      record { read = optional_some (writing v) v is.read; element = is.element }
+
+dsd_again : (n : ℕ) (text : List ℕ) → dsd_of text ≡ Ok n → IsReadAs dsd_of n (number_text n)
+dsd_again n text e = number_again 1 9_999 n text (omega arith) e
+
+quantity_again : (n : ℕ) (text : List ℕ) → quantity_of text ≡ Ok n → IsReadAs quantity_of n (number_text n)
+quantity_again n text e = number_again 0 99_999 n text (omega arith) e
+
+total_quantity_again : (n : ℕ) (text : List ℕ) → total_quantity_of text ≡ Ok n → IsReadAs total_quantity_of n (number_text n)
+total_quantity_again n text e = number_again 0 999_999_999 n text (omega arith) e
+
+cents_again : (n : ℕ) (text : List ℕ) → cents_of text ≡ Ok n → IsReadAs cents_of n (number_text n)
+cents_again n text e = number_again 0 99_999_999_999 n text (omega arith) e
+
+cost_again : (n : ℕ) (text : List ℕ) → cost_of text ≡ Ok n → IsReadAs cost_of n (cost_text n)
+cost_again n text e = decimal_again 4 999_999_999 n text (omega arith) (omega arith) e
+
+percent_again : (n : ℕ) (text : List ℕ) → percent_of text ≡ Ok n → IsReadAs percent_of n (percent_text n)
+percent_again n text e = decimal_again 2 99_999 n text (omega arith) (omega arith) e
+
+optional_cost : (value : Option ℕ) (text : List ℕ) → optional cost_of text ≡ Ok value → IsReadAs (optional cost_of) value (optional_text cost_text value)
+optional_cost value text e = optional_again cost_of cost_text (λ v h. cc (h)) cost_again value text e
+
+optional_quantity : (value : Option ℕ) (text : List ℕ) → optional quantity_of text ≡ Ok value → IsReadAs (optional quantity_of) value (optional_text number_text value)
+optional_quantity value text e = optional_again quantity_of number_text (λ v h. cc (h)) quantity_again value text e
+
+optional_cents : (value : Option ℕ) (text : List ℕ) → optional cents_of text ≡ Ok value → IsReadAs (optional cents_of) value (optional_text number_text value)
+optional_cents value text e = optional_again cents_of number_text (λ v h. cc (h)) cents_again value text e
+
+optional_percent : (value : Option ℕ) (text : List ℕ) → optional percent_of text ≡ Ok value → IsReadAs (optional percent_of) value (optional_text percent_text value)
+optional_percent value text e = optional_again percent_of percent_text (λ v h. cc (h)) percent_again value text e
+
+-- ---- items
+
+pub record SaysAgain (Says : Seg → Type 0) (row : Row) : Type 0 where
+  pub says : (place : ℕ) → Says (segment_of place row)
+  pub segment : IsSegment row
+
+item_id_is : (form : Form) → IsTrue (is_id (item_id form))
+item_id_is forms.Base = refl
+item_id_is forms.Answer = refl
+
+pub item_again : (form : Form) (line : Line) (seg : Seg) → IsSegment seg.parts → IsItem line seg → SaysAgain (IsItem line) (item_row form line)
+item_again form line seg s is =
+    let dsd = dsd_again line.dsd (element_of seg 1) is.dsd in
+    let quantity = quantity_again line.quantity (element_of seg 2) is.quantity in
+    let unit = filled_word_again (element_of seg 3) line.unit is.unit in
+    let upc = word_again (element_of seg 4) line.upc is.upc in
+    let qualifier = word_again (element_of seg 5) line.qualifier is.qualifier in
+    let id = word_again (element_of seg 6) line.id is.id in
+    let case_code = word_again (element_of seg 7) line.case_code is.case_code in
+    let cost = cost_again line.cost (element_of seg 8) is.cost in
+    let pack = word_again (element_of seg 9) line.pack is.pack in
+    let label = word_again (element_of seg 10) line.label is.label in
+    let tail = tail_is 11 seg line.tail (omega arith) s is.tail in
+    record {
+      says = λ place. record {
+        dsd = reads_at dsd_of line.dsd place 1 (item_row form line) dsd;
+        quantity = reads_at quantity_of line.quantity place 2 (item_row form line) quantity;
+        unit = reads_at filled_word_of line.unit place 3 (item_row form line) unit;
+        upc = reads_at word_of line.upc place 4 (item_row form line) upc;
+        qualifier = reads_at word_of line.qualifier place 5 (item_row form line) qualifier;
+        id = reads_at word_of line.id place 6 (item_row form line) id;
+        case_code = reads_at word_of line.case_code place 7 (item_row form line) case_code;
+        cost = reads_at cost_of line.cost place 8 (item_row form line) cost;
+        pack = reads_at word_of line.pack place 9 (item_row form line) pack;
+        label = reads_at word_of line.label place 10 (item_row form line) label;
+        tail = tail_again place 11 (item_row form line) line.tail refl tail;
+      };
+      segment = row_segment (item_id form) (item_elements line) line.tail 11 (item_id_is form)
+          (dsd.element, (quantity.element, (unit.element, (upc.element, (qualifier.element, (id.element, (case_code.element, (cost.element, (pack.element, (label.element, tt)))))))))) (omega arith) tail;
+    }
+
+pub allowance_again : (in_line : Bool) (allowance : Allowance) (seg : Seg) → IsSegment seg.parts → IsAllowance in_line allowance seg → SaysAgain (IsAllowance in_line allowance) (allowance_row allowance)
+allowance_again in_line allowance seg s is =
+    let code = filled_word_again (element_of seg 1) allowance.code is.code in
+    let method = filled_word_again (element_of seg 2) allowance.method is.method in
+    let number = word_again (element_of seg 3) allowance.number is.number in
+    let exception = word_again (element_of seg 4) allowance.exception is.exception in
+    let rate = optional_cost allowance.rate (element_of seg 5) is.rate in
+    let quantity = optional_quantity allowance.quantity (element_of seg 6) is.quantity in
+    let unit = word_again (element_of seg 7) allowance.unit is.unit in
+    let total = optional_cents allowance.total (element_of seg 8) is.total in
+    let percent = optional_percent allowance.percent (element_of seg 9) is.percent in
+    let tail = tail_is 10 seg allowance.tail (omega arith) s is.tail in
+    record {
+      says = λ place. record {
+        code = reads_at filled_word_of allowance.code place 1 (allowance_row allowance) code;
+        method = reads_at filled_word_of allowance.method place 2 (allowance_row allowance) method;
+        number = reads_at word_of allowance.number place 3 (allowance_row allowance) number;
+        exception = reads_at word_of allowance.exception place 4 (allowance_row allowance) exception;
+        rate = reads_at (optional cost_of) allowance.rate place 5 (allowance_row allowance) rate;
+        quantity = reads_at (optional quantity_of) allowance.quantity place 6 (allowance_row allowance) quantity;
+        unit = reads_at word_of allowance.unit place 7 (allowance_row allowance) unit;
+        total = reads_at (optional cents_of) allowance.total place 8 (allowance_row allowance) total;
+        percent = reads_at (optional percent_of) allowance.percent place 9 (allowance_row allowance) percent;
+        tail = tail_again place 10 (allowance_row allowance) allowance.tail refl tail;
+        size = is.size;
+      };
+      segment = row_segment (codes "G72") (allowance_elements allowance) allowance.tail 10 refl
+          (code.element, (method.element, (number.element, (exception.element, (rate.element, (quantity.element, (unit.element, (total.element, (percent.element, tt))))))))) (omega arith) tail;
+    }
+
+-- ---- round the items
+
+pub totals_again : (totals : StatedTotals) (seg : Seg) → IsTotals totals seg → SaysAgain (IsTotals totals) (totals_row totals)
+totals_again totals seg is =
+    let quantity = total_quantity_again totals.quantity (element_of seg 1) is.quantity in
+    let amount = cents_again totals.amount (element_of seg 2) is.amount in
+    let deposit = optional_cents totals.deposit (element_of seg 3) is.deposit in
+    record {
+      says = λ place. record {
+        quantity = reads_at total_quantity_of totals.quantity place 1 (totals_row totals) quantity;
+        amount = reads_at cents_of totals.amount place 2 (totals_row totals) amount;
+        deposit = reads_at (optional cents_of) totals.deposit place 3 (totals_row totals) deposit;
+        ends = no_longer place 3 (totals_row totals) refl;
+      };
+      segment = row_segment (codes "G84") (number_text totals.quantity ∷ number_text totals.amount ∷ optional_text number_text totals.deposit ∷ []) [] 4 refl (quantity.element, (amount.element, (deposit.element, tt))) (omega arith) (no_tail 4 (omega arith));
+    }
+
+pub signature_again : (signature : Signature) (seg : Seg) → IsSignature signature seg → SaysAgain (IsSignature signature) (signature_row signature)
+signature_again signature seg is =
+    let mark = word_between_again 1 12 (element_of seg 1) signature.mark is.mark in
+    let name = word_again (element_of seg 2) signature.name is.name in
+    record {
+      says = λ place. record {
+        mark = reads_at (word_between 1 12) signature.mark place 1 (signature_row signature) mark;
+        name = reads_at word_of signature.name place 2 (signature_row signature) name;
+        ends = no_longer place 2 (signature_row signature) refl;
+      };
+      segment = row_segment (codes "G86") (signature.mark ∷ signature.name ∷ []) [] 3 refl (mark.element, (name.element, tt)) (omega arith) (no_tail 3 (omega arith));
+    }
+
+pub loop_id_again : (id : List ℕ) → IsTrue (is_id id) → SaysAgain (IsLoopId loop_id) (row_of id (loop_id ∷ []) [])
+loop_id_again id i = record {
+  says = λ place. (ap (word_between 1 6) (trim_element (row_of id (loop_id ∷ []) []) 1), no_longer place 1 (row_of id (loop_id ∷ []) []) refl);
+  segment = row_segment id (loop_id ∷ []) [] 2 i (refl, tt) (omega arith) (no_tail 2 (omega arith));
+}
+
+set_code_element : (form : Form) → IsElementText (set_code form)
+set_code_element forms.Base = refl
+set_code_element forms.Answer = refl
+
+pub start_again : (form : Form) (control : ℕ) → control ≤ 999_999_999 → SaysAgain (IsStart (control_text control)) (start_row form control)
+start_again form control small = record {
+  says = λ place. (ap (word_between 4 9) (trim_element (start_row form control) 2) ∙ control_between control small, no_longer place 2 (start_row form control) refl);
+  segment = row_segment (codes "ST") (set_code form ∷ control_text control ∷ []) [] 3 refl (set_code_element form, (control_element control (omega arith), tt)) (omega arith) (no_tail 3 (omega arith));
+}

@@ -1,0 +1,62 @@
+//! Texts of elements: control numbers, and values that may be left out.
+
+ghost use Rattle.std.specs.Prelude.{◌≡◌};
+ghost use Rattle.dsd_values.specs.Reading.{IsElementText};
+ghost use Rattle.dsd_values.specs.Writing.{cost_text, number_text, percent_text};
+ghost use Rattle.segments.specs.SetWriting.{control_text, optional_text};
+
+use arrayvec::ArrayVec;
+use dsd_values::{
+    Cents, Cost, Percent, Quantity, write_cents, write_cost, write_percent, write_plain_number,
+    write_quantity,
+};
+
+/// A control number in digits, at least four of them.
+pub fn control_digits(control: u32) -> ArrayVec<u8, 24>
+    ensures text { result.items ≡ control_text control }
+    ensures element { IsElementText result.items }
+{
+    let digits = write_plain_number(u64::from(control));
+    let mut text = ArrayVec::new();
+    for _ in 0..4usize.saturating_sub(digits.len()) {
+        text.push(b'0');
+    }
+    let _ = text.try_extend_from_slice(digits.as_slice());
+    text
+}
+
+pub fn optional_cost(value: Option<Cost>) -> ArrayVec<u8, 24>
+    ensures { result.items ≡ optional_text cost_text value }
+{
+    match value {
+        Some(value) => write_cost(value),
+        None => ArrayVec::new(),
+    }
+}
+
+pub fn optional_quantity(value: Option<Quantity>) -> ArrayVec<u8, 24>
+    ensures { result.items ≡ optional_text number_text value }
+{
+    match value {
+        Some(value) => write_quantity(value),
+        None => ArrayVec::new(),
+    }
+}
+
+pub fn optional_cents(value: Option<Cents>) -> ArrayVec<u8, 24>
+    ensures { result.items ≡ optional_text number_text value }
+{
+    match value {
+        Some(value) => write_cents(value),
+        None => ArrayVec::new(),
+    }
+}
+
+pub fn optional_percent(value: Option<Percent>) -> ArrayVec<u8, 24>
+    ensures { result.items ≡ optional_text percent_text value }
+{
+    match value {
+        Some(value) => write_percent(value),
+        None => ArrayVec::new(),
+    }
+}
