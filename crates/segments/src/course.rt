@@ -14,10 +14,10 @@ ghost use Rattle.segments.specs.Elements.{Reads};
 ghost use Rattle.segments.specs.Closing.{IsClosed};
 ghost use Rattle.segments.specs.Reasons.{Says, at_segment, admission, allowance_reason, beside, has_line, item_reason, when, loop_end_fault, integrity_reason, trailer_reason, course_reason};
 
+use crate::allowance::read_allowance;
 use crate::closing::{
     read_integrity, read_loop_start, read_signature, read_start, read_totals, read_trailer,
 };
-use crate::allowance::read_allowance;
 use crate::elements::{end_of_elements, kept_at, word_between_at};
 use crate::extras::RecordExtras;
 use crate::item::read_item;
@@ -194,6 +194,8 @@ impl Course {
     }
 
     /// Adds an extra behind the last line or at record level.
+    // Inlined, so that an extra, of some 300 bytes, is written once, in its place.
+    #[inline(always)]
     fn push_extra(&mut self, extra: Extra) -> Result<(), Memory>
         requires sized { IsSized (in_line self.old.phase) extra }
         requires room { HasRoom extra (beside self.old) }

@@ -12,9 +12,9 @@ ghost use Rattle.segments.specs.Elements.{Reads, at_element, said, optional, no_
 use crate::item_fault::ItemFault;
 use crate::segment::Segment;
 use dsd_values::{
-    Cents, Check, Cost, DsdNumber, Kept, KeptFault, Quantity, ValueFault, WORD_BYTES, Word,
-    read_cents, read_check, read_cost, read_dsd, read_number, read_quantity, read_total_quantity,
-    read_word_between,
+    Cents, Check, Cost, DsdNumber, KEPT_BYTES, Kept, KeptFault, Quantity, ValueFault, WORD_BYTES,
+    Word, read_cents, read_check, read_cost, read_dsd, read_number, read_quantity,
+    read_total_quantity, read_word_between,
 };
 use std::alloc::Global;
 
@@ -164,7 +164,19 @@ pub fn kept_at(alloc: Global, segment: &Segment<'_>) -> Result<Kept, ItemFault>
 pub fn tail_at(alloc: Global, segment: &Segment<'_>, first: usize) -> Result<Kept, ItemFault>
     ensures { UnlessMemory ItemFault.Memory result (Ok (tail_from first segment.now)) }
 {
-    match Kept::new(alloc, without_end_stars(segment.tail_from(first))) {
+    let tail = segment.tail_from(first);
+    // Most segments end before their tail: then there is nothing to trim or to copy.
+    if tail.is_empty() {
+        return Ok(Kept::empty(alloc));
+    }
+    kept(alloc, without_end_stars(tail))
+}
+
+fn kept(alloc: Global, text: &[u8]) -> Result<Kept, ItemFault>
+    requires { length text.now ≤ KEPT_BYTES }
+    ensures { UnlessMemory ItemFault.Memory result (Ok text.now) }
+{
+    match Kept::new(alloc, text) {
         Ok(kept) => Ok(kept),
         Err(KeptFault::Memory) => Err(ItemFault::Memory),
         Err(KeptFault::Long(_)) => unreachable!(),
