@@ -54,7 +54,7 @@ impl Extras {
         }
     }
 
-    // Inlined, so that an extra, of some 300 bytes, is written once, in its place.
+    // Inlined, as each call around it is: so an extra, of some 300 bytes, is written once, in its place.
     #[inline(always)]
     pub fn push(&mut self, item: Extra) -> Result<(), Memory>
         ensures ok { OnOk result (self.new ≡ self.old ++ item ∷ []) }

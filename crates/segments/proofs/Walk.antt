@@ -1,12 +1,12 @@
 -- A walk from separator to separator passes over the bytes of a block that are inside.
 use Rattle.std.proofs.Common.{◌≡◌, ◌≢◌, ℕ, zero, suc, ◌+◌, ◌-◌, ◌<◌, ◌≤◌, true, false, List, [], ◌∷◌, ◌++◌, length, take, get_or, inl, inr, sym, ◌∙◌, ap, subst, arith}
-use Rattle.std.proofs.lemmas.Bool.{cases_eq, cases_lt}
+use Rattle.std.proofs.lemmas.Bool.{cases_Bool, cases_eq, cases_lt}
 use Rattle.std.proofs.lemmas.Bool.Decides.{nat_tests}
 use Rattle.std.proofs.lemmas.Nat.Bits.{bit_at-zero}
 use Rattle.std.specs.Int.{bit_at}
 use Rattle.segments.specs.SegmentSpelling.{is_star}
 use Rattle.segments.specs.SegmentCut.{is_outside}
-use Rattle.segments.proofs.Scan.{Scanned, scanned_other, scanned_star}
+use Rattle.segments.proofs.Scan.{Scanned, scanned_other, scanned_star, taken_full}
 use Rattle.segments.proofs.Stops.{bit, set_bit, unset_bit}
 
 -- All bytes from this place up to the stop are inside. So many of them are scanned, and the bits tell the separators among
@@ -57,6 +57,22 @@ scanned_run front ends place (suc n) s each =
     subst (Scanned front ends) next
     (scanned_other front ends (place + n) before (within_text front (place + n) here.0) here.0 (no_separator (get_or front (place + n) 0) here.1))
 
+-- with a full list no separator counts
+scanned_full : (front ends : List ℕ) (place n : ℕ) → length ends ≡ 32 → Scanned front ends place → ((k : ℕ) → k < n → is_outside (get_or front (place + k) 0) ≡ false) → Scanned front ends (place + n)
+scanned_full front ends place zero full s each =
+    let same : place ≡ place + 0 = omega arith in
+    subst (Scanned front ends) same s
+scanned_full front ends place (suc n) full s each =
+    let before = scanned_full front ends place n full s (λ k under. each k (omega arith)) in
+    let here = each n (omega arith) in
+    let within = within_text front (place + n) here in
+    let next : place + n + 1 ≡ place + suc n = omega arith in
+    subst (Scanned front ends) next (elim (cases_Bool (is_star (get_or front (place + n) 0))) [
+      | inl star ↦ subst (λ (l : List ℕ). Scanned front l (place + n + 1)) (taken_full ends (place + n) full)
+          (scanned_star front ends (place + n) before within (is_separator (get_or front (place + n) 0) star))
+      | inr other ↦ scanned_other front ends (place + n) before within here (no_separator (get_or front (place + n) 0) other)
+    ])
+
 module _ (front ends : List ℕ) (place stop bits : ℕ) (w : Walked front ends place stop bits) where
   other_there : (k : ℕ) → w.seen + k < stop - place → bit_at bits (w.seen + k) ≡ 0 → (is_outside (get_or front (place + w.seen + k) 0) ≡ false) × (is_star (get_or front (place + w.seen + k) 0) ≡ false)
   other_there k under unset =
@@ -77,9 +93,23 @@ module _ (front ends : List ℕ) (place stop bits : ℕ) (w : Walked front ends 
       let there : place + (stop - place) ≡ stop = omega (arith, w.low) in
       subst (Scanned front ends) there (scanned_to (stop - place) (omega (arith, w.low)) (omega (arith, w.low)) (λ k under. ap (λ b. bit_at b k) none ∙ bit_at-zero k))
 
+  inside_there : (k : ℕ) → w.seen + k < stop - place → is_outside (get_or front (place + w.seen + k) 0) ≡ false
+  inside_there k under =
+      let there : place + (w.seen + k) ≡ place + w.seen + k = omega arith in
+      subst (λ (p : ℕ). is_outside (get_or front p 0) ≡ false) there (w.inside (w.seen + k) (omega arith))
+
+  pub walked_full : length ends ≡ 32 → Scanned front ends stop
+  walked_full full =
+      let there : place + w.seen + (stop - place - w.seen) ≡ stop = omega (arith, w.low) in
+      subst (Scanned front ends) there
+      (scanned_full front ends (place + w.seen) (stop - place - w.seen) full w.scanned (λ k under. inside_there k (omega (arith, w.low))))
+
   module _ (near : ℕ) (set : bit_at bits near ≡ 1) (below : (k : ℕ) → k < near → bit_at bits k ≡ 0) where
-    pub near_inside : place + near < stop
+    near_inside : place + near < stop
     near_inside = elim (cases_lt (place + near) stop) [ inl inside ↦ inside | inr past ↦ absurd (omega (arith, w.past near past)) ]
+
+    pub near_within : place + near < length front
+    near_within = within_text front (place + near) (w.inside near near_inside)
 
     near_new : w.seen ≤ near
     near_new = elim (cases_lt near w.seen) [ inl old ↦ absurd (omega (arith, w.gone near old)) | inr new ↦ new ]

@@ -194,7 +194,6 @@ impl Course {
     }
 
     /// Adds an extra behind the last line or at record level.
-    // Inlined, so that an extra, of some 300 bytes, is written once, in its place.
     #[inline(always)]
     fn push_extra(&mut self, extra: Extra) -> Result<(), Memory>
         requires sized { IsSized (in_line self.old.phase) extra }

@@ -1,7 +1,7 @@
 ghost use Rattle.std.specs.Prelude.{ℕ, true, false, ◌≡◌, ◌≢◌, ◌+◌, ◌<◌, ◌≤◌, if◌then◌else◌, [], ◌∷◌, ◌++◌, length, slice_index, slice_index_or, take};
 ghost use Rattle.std.specs.Int.{bit_at};
 ghost use Rattle.arrayvec.specs.ArrayVec.{array_vec_len};
-ghost use Rattle.segments.specs.PartEnds.{ends_from};
+ghost use Rattle.segments.specs.PartEnds.{IsFirstBit, ends_from};
 ghost use Rattle.segments.specs.SegmentCut.{body_length, is_outside, parts_of};
 ghost use Rattle.segments.specs.SegmentSpelling.{is_star};
 
@@ -36,10 +36,9 @@ pub fn body_at(front: &[u8]) -> Body
         let block = block_at(front, place);
         inside = inside_of(block);
         let mut stars = first_bits(stars_in(block), inside);
-        while stars != 0 {
-            let near = first_of(stars);
-            push_end(&mut ends, place + near);
-            stars = without(stars, near);
+        while stars != 0 && ends.len() < ends.capacity() {
+            add_end(&mut ends, place + first_of(stars));
+            stars = without_first(stars);
         }
         place += inside;
     }
@@ -57,8 +56,17 @@ fn push_end(ends: &mut PartEnds, place: usize)
     ensures { ends.new.items ≡ take 32 (ends.old.items ++ place ∷ []) }
 {
     if ends.len() < ends.capacity() {
-        ends.push(place as u16);
+        add_end(ends, place);
     }
+}
+
+/// Notes one more end.
+fn add_end(ends: &mut PartEnds, place: usize)
+    requires place { place ≤ 513 }
+    requires room { length ends.old.items < 32 }
+    ensures { ends.new.items ≡ ends.old.items ++ place ∷ [] }
+{
+    ends.push(place as u16);
 }
 
 /// The bytes from this place on, with zeros past the end.
@@ -118,9 +126,7 @@ fn stars_in(block: u8x32) -> u64
 /// The number of the lowest bit that is set.
 fn first_of(bits: u64) -> usize
     requires { bits ≢ 0 }
-    ensures few { result < 64 }
-    ensures set { bit_at bits result ≡ 1 }
-    ensures below { (k : ℕ) → k < result → bit_at bits k ≡ 0 }
+    ensures { IsFirstBit bits result }
 {
     bits.trailing_zeros() as usize
 }
@@ -134,13 +140,12 @@ fn first_bits(bits: u64, count: usize) -> u64
     bits & ((1 << count) - 1)
 }
 
-/// The bits without this one, which is set.
-fn without(bits: u64, number: usize) -> u64
-    requires few { number < 64 }
-    requires set { bit_at bits number ≡ 1 }
-    ensures gone { bit_at result number ≡ 0 }
-    ensures others { (k : ℕ) → k ≢ number → bit_at result k ≡ bit_at bits k }
+/// The bits without the lowest that is set.
+fn without_first(bits: u64) -> u64
+    requires { bits ≢ 0 }
+    ensures gone { (first : ℕ) → IsFirstBit bits first → bit_at result first ≡ 0 }
+    ensures others { (first k : ℕ) → IsFirstBit bits first → k ≢ first → bit_at result k ≡ bit_at bits k }
     ensures fewer { result < bits }
 {
-    bits & !(1 << number)
+    bits & (bits - 1)
 }
