@@ -54,7 +54,7 @@ fn parse_allowance(
     let total = optional_cents_at(segment, 8)?;
     let percent = optional_percent_at(segment, 9)?;
     let tail = tail_at(alloc, segment, 10)?;
-    // The words are made here, each in its place: those of 48 bytes that were made before would be moved at each step.
+    // The words are made last, each in its place: one that is made at its element is moved at each step behind it.
     Ok(Allowance {
         code: Word::new(code),
         method: Word::new(method),

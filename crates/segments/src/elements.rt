@@ -179,7 +179,7 @@ pub fn kept_at(alloc: Global, segment: &Segment<'_>) -> Result<Kept, ItemFault>
 }
 
 /// The elements from this number on, joined by `*`, without empty trailing ones.
-// Most segments end before their tail. That case alone is inlined.
+// Most segments end before their tail: that case alone is inlined.
 #[inline(always)]
 pub fn tail_at(alloc: Global, segment: &Segment<'_>, first: usize) -> Result<Kept, ItemFault>
     ensures { UnlessMemory ItemFault.Memory result (Ok (tail_from first segment.now)) }
@@ -191,7 +191,7 @@ pub fn tail_at(alloc: Global, segment: &Segment<'_>, first: usize) -> Result<Kep
     kept(alloc, tail)
 }
 
-/// A text without the stars at its end.
+/// Keeps a text without the stars at its end.
 #[inline(never)]
 fn kept(alloc: Global, text: &[u8]) -> Result<Kept, ItemFault>
     requires { length text.now ≤ KEPT_BYTES }

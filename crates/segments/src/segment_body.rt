@@ -36,6 +36,7 @@ pub fn body_at(front: &[u8]) -> Body
         let block = block_at(front, place);
         inside = inside_of(block);
         let mut stars = first_bits(stars_in(block), inside);
+        // A full list says too many: where the others stand is not asked.
         while stars != 0 && ends.len() < ends.capacity() {
             add_end(&mut ends, place + first_of(stars));
             stars = without_first(stars);
