@@ -299,15 +299,18 @@ some_record text e =
     let m = (said_by judged nothing segs).course in
     let h = head_there (said_by judged nothing segs).head (whole_head segs nothing 0 (cut_of text).fault e) in
     let sums = agreed_end segs 0 (cut_of text).fault e zero_in in
-    let seal : Seal = record { control = m.control; check = m.integrity } in
-    (record_in h.0 m, seal, found_so text (record_in h.0 m) seal m.totals.amount e (record {
-      done = refl;
-      head = h.1;
-      read = (refl, refl, refl, refl);
-      totals = totals_so m.lines m.totals sums.0;
-      signature = refl;
-      check = refl;
-    }))
+    let seal : Seal = record { control = m.control; check = m.integrity } in (
+      record_in h.0 m,
+      seal,
+      found_so text (record_in h.0 m) seal m.totals.amount e (record {
+        done = refl;
+        head = h.1;
+        read = (refl, refl, refl, refl);
+        totals = totals_so m.lines m.totals sums.0;
+        signature = refl;
+        check = refl;
+      }),
+    )
 
 -- ---- what is the rest of a record stands to the end
 

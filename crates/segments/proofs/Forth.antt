@@ -191,7 +191,7 @@ module _ (m : SoFar) (t : Shared) (before : List Seg) (seg : Seg) (segs : List S
       let here : t.extras ≡ (m.extras ++ Note (kept_text seg) ∷ []) ++ extras = x ∙ ap (λ (u : List ℕ). m.extras ++ Note u ∷ extras) (sym is) ∙ sym (append_assoc m.extras (Note (kept_text seg) ∷ []) extras) in
       (k, refl, (extras, (r, lines_on forms.Base m t before seg segs count check sound at kinds.Note i refl l, extras_on forms.Base m t before seg segs count check sound at kinds.Note false _ extras i refl here, c), rest))
 
--- ---- and an answer
+  -- ---- and an answer
 
   pub answer_reference_on : (text : List ℕ) (lines : List Line) (extras : List Extra) → Left m t (text ∷ []) [] lines extras
       → OneReference forms.Answer text (Body forms.Answer lines extras t) before (seg ∷ segs) → Goes forms.Answer m t before seg segs count check sound at phases.References kinds.Reference
