@@ -1,35 +1,29 @@
 -- What is read is an answer, and what is one is read.
-use Rattle.std.proofs.Common.{◌≡◌, ℕ, ◌+◌, ◌≤◌, ◌<◌, ◌==◌, ◌&&◌, Bool, true, false, List, [], ◌∷◌, ◌++◌, length, Result, Ok, Err, Some, None, Option, IfOk, pos, refl, sym, ap, ◌∙◌, subst, arith, length-append}
+use Rattle.std.proofs.Common.{◌≡◌, ℕ, ◌+◌, ◌≤◌, ◌<◌, ◌==◌, Bool, true, false, List, [], ◌∷◌, ◌++◌, length, Some, None, Option, refl, sym, ap, ◌∙◌, subst, arith}
 use Rattle.std.proofs.lemmas.Bool.Decides.{nat_tests}
 use Rattle.block_check.specs.Crc16.{crc_from}
-use Rattle.std.specs.List.{All}
 use Rattle.std.proofs.lemmas.List.Elements.{All-nil}
 use Rattle.dsd_values.specs.declared.extra.Extra.{Extra}
 use Rattle.dsd_values.specs.declared.line.Line.{Line}
 use Rattle.segments.specs.Extras.{HasExtras, extra_in, kept_text}
 use Rattle.dsd_values.specs.declared.limits.TheConstants.{MOST_LINES, SET_BYTES}
-use Rattle.segments.specs.Views.{Seg, element_of}
+use Rattle.segments.specs.Views.{Seg}
 use Rattle.segments.specs.Kinds.{kind_of, next_phase, is_done}
 use Rattle.segments.specs.SoFar.{SoFar, extras_after, in_line, kept, phase_in}
 use Rattle.segments.specs.Elements.{◌or_else◌}
-use Rattle.segments.specs.Reasons.{as_value, course_reason, admission}
-use Rattle.segments.specs.Refusal.{Refusal, refused_at, ended_at, Answers}
-use Rattle.segments.specs.Grammar.{Shared, IsSound}
-use Rattle.segments.specs.Closing.{IsClosed}
+use Rattle.segments.specs.Reasons.{admission}
+use Rattle.segments.specs.Grammar.{IsSound}
 use Rattle.segments.specs.SegmentSpelling.{SpellsSegments}
 use Rattle.segments.specs.SegmentCut.{Cut, cut_of}
 use Rattle.segments.specs.declared.segment_fault.SegmentFault.{SegmentFault}
-use Rattle.segments.specs.declared.set_fault.SetFault.{SetFault}
-use Rattle.segments.specs.declared.set_fault.SetFault.TheVariants as errors
 use Rattle.segments.specs.declared.seal.Seal.{Seal}
-use Rattle.segments.specs.declared.stated.StatedTotals.{StatedTotals}
 use Rattle.segments.specs.declared.kind.Kind.{Kind}
 use Rattle.segments.specs.declared.kind.Kind.TheVariants as kinds
 use Rattle.segments.specs.declared.kind.Form.TheVariants as forms
 use Rattle.segments.specs.declared.phase.Phase.{Phase}
 use Rattle.segments.specs.declared.phase.Phase.TheVariants as phases
 use Rattle.segments.proofs.Cutting.{spelled_of-cut, cut_of-spelled}
-use Rattle.segments.proofs.Small.{both_none, no_value, none_then, not_when, same_number}
+use Rattle.segments.proofs.Small.{both_none, none_then, not_when}
 use Rattle.segments.proofs.Rest.{IsAt, Read}
 use Rattle.segments.proofs.Whole.{AreShort, and_both, are_short, both_and, end_at, end_of, no_fault}
 use Rattle.segments.proofs.Back.{moves}
@@ -38,7 +32,7 @@ use Rattle.segments.proofs.Keeps.{Sound, is_sound, keeps, at_next, refused_none,
 use Rattle.adjustment_895.specs.AnswerRecord.{AnswerRecord}
 use Rattle.adjustment_895.specs.Grammar.{IsLevelled, shared_of, notes, AreSegments, FromStart}
 use Rattle.adjustment_895.specs.AnswerText.{Is895}
-use Rattle.adjustment_895.specs.Said.{Said, nothing, level_in, level_reason, own_reason, reason_of, kept_by, after, is_whole, has_head, head_after}
+use Rattle.adjustment_895.specs.Said.{Said, nothing, level_in, level_reason, own_reason, reason_of, kept_by, after, has_head}
 use Rattle.adjustment_895.specs.FirstRefusal.{judged}
 use Rattle.segments.specs.Refusal.{refusal_from, said_by}
 use Rattle.adjustment_895.specs.ReadParts.{IsReadFrom, answer_of, first_note, seal_of}

@@ -1,5 +1,5 @@
 -- What is left of an answer, by what was said so far; and a segment more of it, both ways.
-use Rattle.std.proofs.Common.{◌≡◌, ℕ, ◌+◌, ◌<◌, ◌==◌, Bool, true, false, not, List, [], ◌∷◌, ◌++◌, length, Result, Ok, Some, None, Option, refl, sym, ap, ◌∙◌, subst, append-nil, arith}
+use Rattle.std.proofs.Common.{◌≡◌, ℕ, ◌+◌, ◌<◌, ◌==◌, true, false, List, [], ◌∷◌, ◌++◌, length, Ok, Some, None, Option, refl, sym, ap, ◌∙◌, subst, arith}
 use Rattle.std.proofs.lemmas.Bool.Decides.{nat_tests}
 use Rattle.dsd_values.specs.declared.extra.Extra.{Extra}
 use Rattle.dsd_values.specs.declared.extra.Extra.TheVariants.{Allow, Note}
@@ -11,16 +11,16 @@ use Rattle.dsd_values.specs.declared.role.Role.TheVariants as roles
 use Rattle.segments.specs.Views.{Seg, element_of}
 use Rattle.segments.specs.Kinds.{kind_of, next_phase}
 use Rattle.segments.specs.Extras.{is_note, kept_text}
-use Rattle.segments.specs.SoFar.{SoFar, kept, phase_in}
+use Rattle.segments.specs.SoFar.{kept, phase_in}
 use Rattle.segments.specs.Reasons.{course_reason}
-use Rattle.segments.specs.Grammar.{Shape, Shared, Body, Closing, Extras, Items, IsStart, IsSound}
+use Rattle.segments.specs.Grammar.{Shape, Body, Closing, Extras, Items, IsSound}
 use Rattle.segments.specs.declared.seal.Seal.{Seal}
 use Rattle.segments.specs.declared.kind.Kind.{Kind}
 use Rattle.segments.specs.declared.kind.Kind.TheVariants as kinds
 use Rattle.segments.specs.declared.kind.Form.TheVariants as forms
 use Rattle.segments.specs.declared.phase.Phase.{Phase}
 use Rattle.segments.specs.declared.phase.Phase.TheVariants as phases
-use Rattle.segments.proofs.Small.{both_none, none_then, no_value, value_none, at_ok, ok_at, ok_said, when_not, not_when, are_empty, empty_ones}
+use Rattle.segments.proofs.Small.{both_none, none_then, no_value, value_none, at_ok, ok_at, ok_said, when_not, are_empty, empty_ones}
 use Rattle.segments.proofs.Faultless.{start_right, right_start}
 use Rattle.segments.proofs.Rest.{RestAt, Left, Ending, AfterItems, IsAt}
 use Rattle.segments.proofs.Back.{moves, is_course, back as course_back}

@@ -1,8 +1,6 @@
 -- The answer that is read is the one that its text spells.
-use Rattle.std.proofs.Common.{◌≡◌, ℕ, List, [], ◌∷◌, Result, Ok, Err, Some, None, Option, refl, sym, ap, ◌∙◌, subst}
-use Rattle.dsd_values.specs.declared.flag.Flag.{Flag}
+use Rattle.std.proofs.Common.{◌≡◌, ℕ, List, Result, Err, Some, None, Option, refl, sym, ap, ◌∙◌, subst}
 use Rattle.dsd_values.specs.declared.line.Line.{Line}
-use Rattle.dsd_values.specs.declared.role.Role.{Role}
 use Rattle.dsd_values.specs.declared.signature.Signature.{Signature}
 use Rattle.segments.proofs.Whole.{long_ones}
 use Rattle.segments.specs.SegmentCut.{cut_of}
@@ -13,7 +11,7 @@ use Rattle.segments.specs.declared.set_fault.SetFault.TheVariants as errors
 use Rattle.segments.specs.declared.seal.Seal.{Seal}
 use Rattle.segments.specs.declared.stated.StatedTotals.{StatedTotals}
 use Rattle.adjustment_895.specs.AnswerRecord.{AnswerRecord}
-use Rattle.adjustment_895.specs.Grammar.{notes, shared_of}
+use Rattle.adjustment_895.specs.Grammar.{notes}
 use Rattle.adjustment_895.specs.AnswerText.{Is895, IsAnswer}
 use Rattle.adjustment_895.specs.Said.{nothing}
 use Rattle.adjustment_895.specs.FirstRefusal.{judged, refusal_of}

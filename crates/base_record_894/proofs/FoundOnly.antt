@@ -1,7 +1,6 @@
 -- What is read is a base record, and what is one is read.
-use Rattle.std.proofs.Common.{◌≡◌, ℕ, ◌+◌, ◌≤◌, ◌<◌, ◌&&◌, Bool, true, false, List, [], ◌∷◌, ◌++◌, length, Result, Ok, Err, Some, None, Option, IfOk, pos, refl, sym, ap, ◌∙◌, subst, arith, length-append}
+use Rattle.std.proofs.Common.{◌≡◌, ℕ, ◌+◌, ◌≤◌, Bool, true, false, List, [], ◌∷◌, ◌++◌, length, Ok, Some, None, Option, pos, refl, sym, ap, ◌∙◌, subst, arith}
 use Rattle.block_check.specs.Crc16.{crc_from}
-use Rattle.std.specs.List.{All}
 use Rattle.std.proofs.lemmas.List.Elements.{All-nil}
 use Rattle.dsd_pricing.specs.Pricing.{priced, quantities, totals_of}
 use Rattle.dsd_values.specs.declared.cents.TheConstants.Cents.{MAX as MOST_CENTS}
@@ -14,15 +13,11 @@ use Rattle.segments.specs.Views.{Seg, element_of}
 use Rattle.segments.specs.Kinds.{kind_of, next_phase, is_done}
 use Rattle.segments.specs.SoFar.{SoFar, kept, phase_in}
 use Rattle.segments.specs.Elements.{◌or_else◌}
-use Rattle.segments.specs.Reasons.{as_value, course_reason, admission}
-use Rattle.segments.specs.Refusal.{Refusal, refused_at, ended_at, Answers}
-use Rattle.segments.specs.Grammar.{Shared, IsSound}
-use Rattle.segments.specs.Closing.{IsClosed}
+use Rattle.segments.specs.Reasons.{as_value, admission}
+use Rattle.segments.specs.Grammar.{IsSound}
 use Rattle.segments.specs.SegmentSpelling.{SpellsSegments}
 use Rattle.segments.specs.SegmentCut.{Cut, cut_of}
 use Rattle.segments.specs.declared.segment_fault.SegmentFault.{SegmentFault}
-use Rattle.segments.specs.declared.set_fault.SetFault.{SetFault}
-use Rattle.segments.specs.declared.set_fault.SetFault.TheVariants as errors
 use Rattle.segments.specs.declared.seal.Seal.{Seal}
 use Rattle.segments.specs.declared.stated.StatedTotals.{StatedTotals}
 use Rattle.segments.specs.declared.kind.Kind.{Kind}
@@ -40,7 +35,7 @@ use Rattle.segments.proofs.Keeps.{Sound, is_sound, keeps, at_next, refused_none,
 use Rattle.base_record_894.specs.BaseRecord.{BaseRecord}
 use Rattle.base_record_894.specs.Grammar.{shared_of, AreSegments, FromStart}
 use Rattle.base_record_894.specs.RecordText.{Is894}
-use Rattle.base_record_894.specs.Said.{Said, nothing, own_reason, reason_of, answer_reason, rows_reason, kept_by, after, is_whole, has_head}
+use Rattle.base_record_894.specs.Said.{Said, nothing, own_reason, reason_of, answer_reason, rows_reason, kept_by, after, has_head}
 use Rattle.base_record_894.specs.FirstRefusal.{judged}
 use Rattle.segments.specs.Refusal.{refusal_from, said_by}
 use Rattle.base_record_894.specs.ReadParts.{IsReadFrom, record_of, seal_of}

@@ -1,22 +1,20 @@
 -- The rows that are written of a record are a text of that record.
-use Rattle.std.proofs.Common.{◌≡◌, ℕ, ◌+◌, ◌^◌, ◌<◌, ◌≤◌, inl, inr, Bool, true, false, pos, unsigned_abs, nat_lt, IsTrue, List, [], ◌∷◌, ◌++◌, length, map, codes, get_or, Option, Some, None, Result, Ok, Err, refl, sym, ◌∙◌, ap, subst, arith, length-append}
+use Rattle.std.proofs.Common.{◌≡◌, ℕ, ◌≤◌, inl, inr, unsigned_abs, nat_lt, List, [], ◌∷◌, ◌++◌, length, map, codes, Option, Some, None, Result, Ok, Err, refl, sym, ◌∙◌, ap, subst, arith}
 use Rattle.std.specs.List.{All}
 use Rattle.std.proofs.lemmas.Bool.{cases_Bool}
 use Rattle.std.proofs.lemmas.Bool.Decides.{nat_tests}
 use Rattle.std.proofs.lemmas.List.Elements.{All-append, All-head, All-tail}
-use Rattle.dsd_pricing.specs.Pricing.{quantities, totals_of}
-use Rattle.dsd_pricing.specs.declared.amounts.Totals.{Totals}
+use Rattle.dsd_pricing.specs.Pricing.{quantities}
 use Rattle.dsd_pricing.specs.declared.fault.PriceFault.{PriceFault}
 use Rattle.dsd_pricing.specs.declared.fault.WriteFault.{WriteFault}
 use Rattle.dsd_pricing.specs.declared.fault.WriteFault.TheVariants.{LongSegment, LongSet, Price, Memory as NoMemory}
 use Rattle.dsd_values.specs.Calendar.{day_of}
 use Rattle.dsd_values.specs.Reading.{delivery_number_of, flag_of, word_of}
 use Rattle.dsd_values.specs.Spelling.{flag_text}
-use Rattle.dsd_values.specs.Writing.{day_text}
 use Rattle.dsd_values.specs.declared.limits.TheConstants.{SET_BYTES}
 use Rattle.dsd_values.proofs.Again.{day_again, delivery_number_again, flag_again, word_again}
 use Rattle.segments.specs.Views.{Seg, element_of}
-use Rattle.segments.specs.Grammar.{BehindHead, IsStart, One, Shape}
+use Rattle.segments.specs.Grammar.{BehindHead, IsStart}
 use Rattle.segments.specs.Kinds.{kind_of}
 use Rattle.dsd_values.specs.Answers.{UnlessMemory}
 use Rattle.segments.specs.RowsWritten.{SetSoFar, after_writing, first_long, no_rows, text_after, text_in, unless_long, with_rows}
@@ -24,8 +22,8 @@ use Rattle.segments.specs.declared.segment_write_fault.SegmentWriteFault.{Segmen
 use Rattle.segments.specs.declared.segment_write_fault.SegmentWriteFault.TheVariants.{Memory, LongSegment as SegmentLong}
 use Rattle.segments.proofs.Rows.{all_back, all_front, long_rows, then_rows, was_written, were_written}
 use Rattle.segments.specs.SegmentSpelling.{IsLongSegment, IsSegment}
-use Rattle.segments.specs.SegmentWriting.{IsLine, segment_of, segments_of, text_of}
-use Rattle.segments.specs.SetWriting.{Row, body_rows, control_text, kept_row, sealed, sealing_rows, start_row}
+use Rattle.segments.specs.SegmentWriting.{segments_of, text_of}
+use Rattle.segments.specs.SetWriting.{Row, control_text, kept_row, sealed, sealing_rows, start_row}
 use Rattle.segments.specs.declared.kind.Form.TheVariants as forms
 use Rattle.segments.specs.declared.kind.Kind.TheVariants as kinds
 use Rattle.segments.specs.declared.seal.Seal.{Seal}
@@ -38,7 +36,7 @@ use Rattle.segments.proofs.Written.{lines_spelled}
 use Rattle.base_record_894.specs.BaseRecord.{BaseRecord, amount_of}
 use Rattle.base_record_894.specs.Grammar.{AreSegments, FromHead, FromStart, IsHead, shared_of}
 use Rattle.base_record_894.specs.RecordText.{Is894, IsBase}
-use Rattle.base_record_894.specs.WrittenText.{after_price, head_elements, head_row, later_rows, opened_rows, rows_of, seal_of, stated_totals, unless_too_long, whole, written_of}
+use Rattle.base_record_894.specs.WrittenText.{after_price, head_elements, head_row, later_rows, opened_rows, rows_of, seal_of, unless_too_long, whole, written_of}
 use Rattle.base_record_894.proofs.Amounts.{totals_priced}
 
 -- ---- the head

@@ -1,5 +1,5 @@
 -- A value that some text spells is read of the text that is written of it, which may stand in an element.
-use Rattle.std.proofs.Common.{◌≡◌, ℕ, ◌^◌, ◌<◌, ◌≤◌, List, [], false, length, Option, Some, None, Result, Ok, Err, refl, sym, ◌∙◌, ap, subst, arith}
+use Rattle.std.proofs.Common.{◌≡◌, ℕ, ◌^◌, ◌<◌, ◌≤◌, List, false, length, Result, Ok, refl, subst, arith}
 use Rattle.std.specs.Char.{IsAsciiDigit}
 use Rattle.std.specs.Fmt.{decimal}
 use Rattle.std.specs.List.{All}
@@ -11,7 +11,7 @@ use Rattle.dsd_values.specs.Writing.{check_text, day_text, decimal_text, number_
 use Rattle.dsd_values.specs.declared.flag.Flag.{Flag}
 use Rattle.dsd_values.specs.declared.flag.Flag.TheVariants.{Debit, Credit}
 use Rattle.dsd_values.proofs.Dates.{date_passes, day_read, day_read_back}
-use Rattle.dsd_values.proofs.Elements.{check_element, day_element, decimal_element, delivery_element, digit_element, number_element}
+use Rattle.dsd_values.proofs.Elements.{check_element, day_element, decimal_element, digit_element, number_element}
 use Rattle.dsd_values.proofs.Hexadecimal.{check_read_back}
 use Rattle.dsd_values.proofs.Laws.{delivery_number_of_spelled, element_fails, filled_word_of_spelled, number_law, plain_number_of_spelled, word_between_spelled, word_of_spelled}
 use Rattle.dsd_values.proofs.Points.{decimal_read}

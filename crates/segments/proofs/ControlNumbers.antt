@@ -1,15 +1,14 @@
 -- Control numbers in digits, which may stand in an element and are read as they were written.
-use Rattle.std.proofs.Common.{◌≡◌, ℕ, ◌+◌, ◌-◌, ◌^◌, ◌<◌, ◌≤◌, false, List, [], ◌∷◌, ◌++◌, length, get_or, position, replicate, None, Ok, refl, sym, ◌∙◌, ap, subst, arith, length-append}
+use Rattle.std.proofs.Common.{◌≡◌, ℕ, ◌-◌, ◌^◌, ◌<◌, ◌≤◌, false, length, replicate, Ok, refl, sym, subst, arith, length-append}
 use Rattle.std.specs.Fmt.{decimal}
 use Rattle.std.specs.List.{All}
-use Rattle.std.proofs.lemmas.Bool.Decides.{nat_tests}
-use Rattle.std.proofs.lemmas.Fmt.{decimal_nonempty, length-decimal-le}
+use Rattle.std.proofs.lemmas.Fmt.{length-decimal-le}
 use Rattle.std.proofs.lemmas.List.{get_or-replicate, length-replicate}
 use Rattle.std.proofs.lemmas.List.Elements.{All-append}
 use Rattle.dsd_values.specs.Reading.{IsElementText, filled_word_of, is_no_element_byte, word_between}
 use Rattle.dsd_values.specs.Spelling.{IsElementCharacter}
 use Rattle.dsd_values.specs.Writing.{number_text}
-use Rattle.dsd_values.proofs.Again.{IsReadAs, decimal_text_element}
+use Rattle.dsd_values.proofs.Again.{decimal_text_element}
 use Rattle.dsd_values.proofs.Laws.{element_passes, filled_word_of_spelled, word_between_spelled}
 use Rattle.dsd_values.proofs.Refusals.{all_pass, none_outside}
 use Rattle.segments.specs.SetWriting.{control_text}

@@ -1,6 +1,6 @@
 -- A segment that is begun is given elements, one after another.
-use Rattle.std.proofs.Common.{◌≡◌, ℕ, ◌+◌, ◌<◌, ◌≤◌, Bool, true, false, List, [], ◌∷◌, ◌++◌, length, map, take, drop, get_or, position, Bor, Option, Some, None, IsSome, refl, sym, ◌∙◌, ap, subst, arith, append-nil, append_assoc, length-append}
-use Rattle.std.specs.List.{All, after_first, before_first, position_or_len, slice_split}
+use Rattle.std.proofs.Common.{◌≡◌, ℕ, ◌+◌, ◌<◌, ◌≤◌, true, false, List, [], ◌∷◌, ◌++◌, length, map, take, drop, get_or, position, Bor, Option, Some, None, IsSome, refl, sym, ◌∙◌, ap, subst, arith, append-nil, append_assoc, length-append}
+use Rattle.std.specs.List.{All, position_or_len, slice_split}
 use Rattle.std.proofs.lemmas.Bool.Decides.{nat_tests}
 use Rattle.std.proofs.lemmas.List.{get_or-map, length-map, length-take, take_all, take_more}
 use Rattle.std.proofs.lemmas.List.Elements.{All-get_or, All-head, All-tail}
@@ -12,7 +12,6 @@ use Rattle.dsd_values.proofs.Refusals.{none_outside}
 use Rattle.segments.specs.RowsWritten.{with_elements}
 use Rattle.segments.specs.SegmentSpelling.{IsPart, is_element_character, is_star}
 use Rattle.segments.specs.SegmentWriting.{Written, given, parts_of_begun}
-use Rattle.segments.specs.SetWriting.{parted}
 
 -- ---- parts and element texts
 

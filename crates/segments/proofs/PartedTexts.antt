@@ -1,8 +1,7 @@
 -- Texts in which stars part elements: what was joined is parted into the same, empty ones at the end aside.
-use Rattle.std.proofs.Common.{◌≡◌, ℕ, zero, suc, ◌+◌, ◌-◌, ◌<◌, ◌≤◌, ◌==◌, Bool, true, false, IsTrue, List, [], ◌∷◌, ◌++◌, length, take, drop, get_or, refl, sym, ◌∙◌, ap, subst, arith, append-nil, length-append, drop-drop}
-use Rattle.std.specs.List.{All, after_first, before_first, join_with_byte, position_or_len, slice_split}
+use Rattle.std.proofs.Common.{◌≡◌, ℕ, ◌+◌, ◌<◌, ◌≤◌, false, IsTrue, List, [], ◌∷◌, ◌++◌, length, take, drop, get_or, refl, sym, ◌∙◌, ap, subst, arith, length-append, drop-drop}
+use Rattle.std.specs.List.{All, join_with_byte, position_or_len, slice_split}
 use Rattle.std.proofs.Math.Seq.{drop-append_seam, get_or-append_seam, take-append_seam, take-length}
-use Rattle.std.proofs.lemmas.Bool.Decides.{nat_tests}
 use Rattle.std.proofs.lemmas.List.{drop_all, get_or_append_left, length-drop}
 use Rattle.std.proofs.lemmas.List.Elements.{All-drop, All-head, All-nil, All-tail}
 use Rattle.std.proofs.lemmas.List.Splits.{slice_split_at, slice_split_none}
@@ -10,11 +9,11 @@ use Rattle.std.proofs.lemmas.List.Sums.{position_or_len_is}
 use Rattle.segments.specs.Views.{Seg}
 use Rattle.segments.specs.Elements.{or_star, tail_from, without_end_stars}
 use Rattle.segments.specs.Extras.{kept_text}
-use Rattle.segments.specs.SegmentSpelling.{IsPart, IsSegment, is_element_character, is_id, is_star}
+use Rattle.segments.specs.SegmentSpelling.{IsPart, IsSegment, is_id, is_star}
 use Rattle.segments.specs.SegmentWriting.{in_front, segment_of, without_empty_end}
 use Rattle.segments.specs.SetWriting.{kept_row, parted}
 use Rattle.segments.proofs.EmptyEnds.{trim_all, trim_element, trim_joined, trim_length, trim_tail}
-use Rattle.segments.proofs.Written.{id_part, no_star}
+use Rattle.segments.proofs.Written.{no_star}
 
 -- ---- texts that end in no star
 

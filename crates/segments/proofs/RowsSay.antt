@@ -1,19 +1,19 @@
 -- What is written of what a segment says is a segment that says the same.
-use Rattle.std.proofs.Common.{◌≡◌, ℕ, zero, suc, ◌+◌, ◌^◌, ◌<◌, ◌≤◌, Bool, true, false, IsTrue, List, [], ◌∷◌, ◌++◌, length, drop, codes, get_or, Option, Some, None, Result, Ok, Err, refl, sym, ◌∙◌, ap, subst, arith, length-append}
+use Rattle.std.proofs.Common.{◌≡◌, ℕ, ◌+◌, ◌≤◌, Bool, IsTrue, List, [], ◌∷◌, ◌++◌, length, drop, codes, get_or, Option, Some, None, Result, Ok, Err, refl, sym, ◌∙◌, ap, subst, arith, length-append}
 use Rattle.std.specs.List.{All, join_with_byte}
 use Rattle.std.proofs.lemmas.List.Elements.{All-append, All-cons, All-nil}
-use Rattle.dsd_values.specs.Reading.{IsElementText, cents_of, check_of, cost_of, dsd_of, filled_word_of, percent_of, plain_number_of, quantity_of, total_quantity_of, word_between, word_of}
-use Rattle.dsd_values.specs.Writing.{check_text, cost_text, number_text, percent_text}
+use Rattle.dsd_values.specs.Reading.{IsElementText, cents_of, cost_of, dsd_of, filled_word_of, percent_of, quantity_of, total_quantity_of, word_between, word_of}
+use Rattle.dsd_values.specs.Writing.{cost_text, number_text, percent_text}
 use Rattle.dsd_values.specs.declared.allowance.Allowance.{Allowance}
 use Rattle.dsd_values.specs.declared.fault.ValueFault.{ValueFault}
 use Rattle.dsd_values.specs.declared.line.Line.{Line}
 use Rattle.dsd_values.specs.declared.signature.Signature.{Signature}
-use Rattle.dsd_values.proofs.Again.{IsReadAs, check_again, decimal_again, filled_word_again, number_again, plain_read_back, word_again, word_between_again}
+use Rattle.dsd_values.proofs.Again.{IsReadAs, decimal_again, filled_word_again, number_again, word_again, word_between_again}
 use Rattle.segments.specs.Views.{Seg, element_of}
 use Rattle.segments.specs.Allowances.{IsAllowance}
 use Rattle.segments.specs.Elements.{optional, some_of, tail_from, without_end_stars}
 use Rattle.segments.specs.Grammar.{AreEmpty, IsItem, IsLoopId, IsNoLonger, IsSignature, IsStart, IsTotals}
-use Rattle.segments.specs.Kinds.{item_id, kind_of, set_code}
+use Rattle.segments.specs.Kinds.{item_id, set_code}
 use Rattle.segments.specs.SegmentSpelling.{IsPart, IsSegment, is_id}
 use Rattle.segments.specs.SegmentWriting.{segment_of, without_empty_end}
 use Rattle.segments.specs.SetWriting.{Row, allowance_elements, allowance_row, control_text, item_elements, item_row, loop_id, optional_text, parted, row_of, signature_row, start_row, totals_row}

@@ -1,7 +1,7 @@
 -- What is written of a set has the shape of the set: segment after segment, whatever segments said its value.
 use Rattle.std.proofs.Common.{◌≡◌, ℕ, ◌+◌, ◌^◌, ◌<◌, ◌≤◌, Bool, true, false, List, [], ◌∷◌, ◌++◌, length, map, codes, Ok, refl, sym, ◌∙◌, ap, subst, arith, append_assoc, append-nil, length-append}
 use Rattle.std.specs.List.{All, flat_map}
-use Rattle.std.proofs.lemmas.List.Elements.{All-append, All-cons, All-head, All-nil, All-tail}
+use Rattle.std.proofs.lemmas.List.Elements.{All-cons, All-head, All-nil, All-tail}
 use Rattle.block_check.specs.Crc16.{crc_of}
 use Rattle.dsd_values.specs.Reading.{check_of, filled_word_of, plain_number_of}
 use Rattle.dsd_values.specs.Writing.{number_text}
@@ -9,10 +9,10 @@ use Rattle.dsd_values.specs.declared.extra.Extra.{Extra}
 use Rattle.dsd_values.specs.declared.extra.Extra.TheVariants.{Allow, Note}
 use Rattle.dsd_values.specs.declared.line.Line.{Line}
 use Rattle.dsd_values.proofs.Again.{check_again, plain_read_back}
-use Rattle.segments.specs.Views.{Seg, element_of}
+use Rattle.segments.specs.Views.{Seg}
 use Rattle.segments.specs.Extras.{IsExtra, is_note, kept_text}
-use Rattle.segments.specs.Grammar.{BehindHead, Body, Closing, End, Extras, Integrity, IsIntegrity, IsItem, IsLoopId, IsNoLonger, IsSignature, IsTotals, IsTrailer, Items, Loop, LoopEnd, One, OneExtra, OneReference, Record, References, Shape, Shared, Signed, Trailer, bytes_of}
-use Rattle.segments.specs.Kinds.{item_id, kind_of}
+use Rattle.segments.specs.Grammar.{BehindHead, Body, Closing, Extras, Integrity, IsItem, IsLoopId, IsSignature, IsTotals, Items, Loop, LoopEnd, One, OneExtra, Record, References, Shape, Shared, Signed, bytes_of}
+use Rattle.segments.specs.Kinds.{kind_of}
 use Rattle.segments.specs.SegmentSpelling.{IsSegment}
 use Rattle.segments.specs.SegmentWriting.{line_of, segment_of, segments_of, text_of, without_empty_end}
 use Rattle.segments.specs.SetWriting.{Row, body_rows, control_text, extra_row, integrity_row, item_row, kept_row, line_rows, loop_end_row, loop_id, loop_rows, loop_start_row, sealing_rows, signature_row, totals_row, trailer_row}

@@ -1,6 +1,6 @@
 -- Rows that are sealed: their check and their number are small, and their text is that of their segments.
-use Rattle.std.proofs.Common.{◌≡◌, ℕ, zero, suc, ◌+◌, ◌/◌, ◌%◌, ◌^◌, ◌<◌, ◌≤◌, ◌==◌, Bool, true, false, bit_xor, nat_lt, List, [], ◌∷◌, ◌++◌, length, codes, Option, Some, None, lit<, refl, sym, ◌∙◌, ap, subst, arith, inl, inr, length-append}
-use Rattle.std.specs.List.{All, fold, join_with_byte}
+use Rattle.std.proofs.Common.{◌≡◌, ℕ, zero, suc, ◌+◌, ◌/◌, ◌%◌, ◌^◌, ◌<◌, ◌≤◌, ◌==◌, true, bit_xor, nat_lt, List, [], ◌∷◌, length, codes, Some, None, lit<, refl, ◌∙◌, ap, arith, inl, inr, length-append}
+use Rattle.std.specs.List.{All, join_with_byte}
 use Rattle.std.proofs.lemmas.Bool.{cases_Bool}
 use Rattle.std.proofs.lemmas.Bool.Decides.{nat_tests}
 use Rattle.std.proofs.lemmas.List.Elements.{All-append, All-cons, All-head, All-nil, All-tail}

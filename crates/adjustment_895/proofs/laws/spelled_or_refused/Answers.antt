@@ -1,4 +1,3 @@
-use Rattle.std.proofs.Common.{◌≡◌, None, Some, sym, ◌∙◌}
 use Rattle.adjustment_895.proofs.FoundOnly.{some_answer}
 use Rattle.adjustment_895.proofs.OneAnswer.{refused_not}
 use Rattle.adjustment_895.proofs.laws.spelled_or_refused.Goals as goal

@@ -1,4 +1,3 @@
-use Rattle.std.proofs.Common.{◌≡◌, None, Some, sym, ◌∙◌}
 use Rattle.base_record_894.proofs.FoundOnly.{some_record}
 use Rattle.base_record_894.proofs.OneRecord.{refused_not}
 use Rattle.base_record_894.proofs.laws.spelled_or_refused.Goals as goal

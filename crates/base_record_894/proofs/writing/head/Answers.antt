@@ -1,4 +1,4 @@
-use Rattle.std.proofs.Common.{◌∙◌, ap, [], ◌∷◌}
+use Rattle.std.proofs.Common.{◌∙◌, ap}
 use Rattle.dsd_values.specs.Spelling.{flag_text}
 use Rattle.base_record_894.proofs.writing.head.Goals as goal
 

@@ -1,9 +1,9 @@
-use Rattle.std.proofs.Common.{◌∙◌, ap, sym, subst, [], ◌∷◌, ◌++◌, List, ℕ, map}
+use Rattle.std.proofs.Common.{◌∙◌, sym, subst, [], ◌∷◌, ◌++◌, List, ℕ, map}
 use Rattle.std.specs.List.{All}
 use Rattle.dsd_values.specs.Answers.{UnlessMemory}
 use Rattle.segments.specs.RowsWritten.{after_writing}
 use Rattle.segments.specs.SegmentSpelling.{IsSegment}
-use Rattle.segments.specs.SetWriting.{Row, kept_row, start_row}
+use Rattle.segments.specs.SetWriting.{kept_row, start_row}
 use Rattle.segments.specs.declared.kind.Form.TheVariants as forms
 use Rattle.segments.specs.declared.segment_write_fault.SegmentWriteFault.TheVariants.{Memory}
 use Rattle.segments.proofs.Rows.{both_written, first_refused, same_err}

@@ -1,4 +1,4 @@
-use Rattle.std.proofs.Common.{◌≤◌, ◌∙◌, ap, length, arith}
+use Rattle.std.proofs.Common.{◌≤◌, ap, length, arith}
 use Rattle.segments.specs.RowsWritten.{first_long}
 use Rattle.segments.specs.SegmentWriting.{text_of}
 use Rattle.segments.proofs.Rows.{same_err}

@@ -1,4 +1,4 @@
-use Rattle.std.proofs.Common.{◌≡◌, ℕ, ◌+◌, ◌<◌, length, List, [], ◌∷◌, ◌++◌, take, false, true, get_or, sym, ◌∙◌, subst, ap, arith}
+use Rattle.std.proofs.Common.{ℕ, ◌+◌, ◌<◌, length, List, sym, ◌∙◌, subst, ap, arith}
 use Rattle.segments.specs.SegmentCut.{is_outside}
 use Rattle.segments.specs.SegmentSpelling.{is_star}
 use Rattle.segments.proofs.Scan.{scanned_none, scanned_all, taken_all}

@@ -1,6 +1,5 @@
-use Rattle.std.proofs.Common.{◌∙◌, ◌-◌, arith}
+use Rattle.std.proofs.Common.{◌-◌, arith}
 use Rattle.std.proofs.lemmas.Nat.{and_le_r}
-use Rattle.std.proofs.lemmas.Nat.Bits.{bit_at_and}
 use Rattle.segments.proofs.Bits.{rest_gone, rest_same}
 use Rattle.segments.proofs.segment_body.without_first.Goals as goal
 

@@ -1,4 +1,4 @@
-use Rattle.std.proofs.Common.{[], ◌∷◌, refl, List, ℕ}
+use Rattle.std.proofs.Common.{[], ◌∷◌, refl, List}
 use Rattle.dsd_values.specs.declared.extra.Extra.{Extra}
 use Rattle.segments.specs.SetWriting.{Row, extra_row}
 use Rattle.segments.proofs.Rows.{mapped_at, next_left, next_refused, none_left, one_each, same_err}

@@ -1,11 +1,10 @@
-use Rattle.std.proofs.Common.{[], ◌∷◌, ◌++◌, ◌≡◌, ◌<◌, false, length, ℕ, List, map, subst, sym, ◌∙◌, arith}
+use Rattle.std.proofs.Common.{[], ◌∷◌, ◌++◌, length, List, subst, sym, ◌∙◌}
 use Rattle.std.specs.List.{All, flat_map}
-use Rattle.std.proofs.lemmas.Bool.Decides.{nat_tests}
-use Rattle.std.proofs.lemmas.List.Elements.{All-head, All-tail}
+use Rattle.std.proofs.lemmas.List.Elements.{All-tail}
 use Rattle.dsd_values.specs.Answers.{UnlessMemory}
 use Rattle.segments.specs.RowsWritten.{after_writing}
 use Rattle.segments.specs.SegmentSpelling.{IsSegment}
-use Rattle.segments.specs.SetWriting.{Row, line_rows, loop_end_row, loop_rows, loop_start_row}
+use Rattle.segments.specs.SetWriting.{Row, line_rows, loop_end_row, loop_start_row}
 use Rattle.segments.specs.declared.segment_write_fault.SegmentWriteFault.TheVariants.{Memory}
 use Rattle.segments.proofs.Rows.{all_front, both_written, first_refused, loop_is, not_empty, same_err}
 use Rattle.segments.proofs.set_writer.SetWriter.items.Goals as goal

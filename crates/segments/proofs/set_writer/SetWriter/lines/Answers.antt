@@ -1,4 +1,4 @@
-use Rattle.std.proofs.Common.{[], ◌∷◌, refl, List, ℕ}
+use Rattle.std.proofs.Common.{refl}
 use Rattle.segments.specs.SetWriting.{line_rows}
 use Rattle.segments.proofs.Rows.{rows_at, next_left, next_refused, none_left, same_err}
 use Rattle.segments.proofs.set_writer.SetWriter.lines.Goals as goal

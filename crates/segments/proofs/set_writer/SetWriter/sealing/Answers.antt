@@ -1,4 +1,4 @@
-use Rattle.std.proofs.Common.{refl, subst, sym, ◌∙◌, codes}
+use Rattle.std.proofs.Common.{refl, subst, sym, codes}
 use Rattle.dsd_values.specs.Reading.{IsElementText}
 use Rattle.segments.proofs.Rows.{one_element, two_elements}
 use Rattle.segments.proofs.set_writer.SetWriter.sealing.Goals as goal
