@@ -1,5 +1,5 @@
 -- Stated amounts against what rows come to, and rows that have a price.
-use Rattle.std.proofs.Common.{◌≡◌, ◌≤◌, ◌||◌, ◌<◌, ℕ, ℤ, pos, Bool, true, false, not, IsTrue, IsSome, List, Option, Some, None, Result, Ok, Err, negsuc, int_lt, unsigned_abs, if◌then◌else◌, arith, length, refl, sym, ap, ◌∙◌, int_eq}
+use Rattle.std.proofs.Common.{◌≡◌, ◌≤◌, ℕ, ℤ, pos, Bool, true, false, not, IsTrue, IsSome, List, Option, Some, None, Result, Ok, Err, negsuc, int_lt, unsigned_abs, if◌then◌else◌, arith, length, refl, sym, ap, ◌∙◌, int_eq}
 use Rattle.std.specs.List.{All}
 use Rattle.std.specs.Option.{option_or}
 use Rattle.std.proofs.lemmas.Bool.Decides.{Decides-int_eq, nat_tests}
@@ -11,12 +11,11 @@ use Rattle.dsd_pricing.specs.declared.fault.PriceFault.TheVariants.{Negative, To
 use Rattle.dsd_values.proofs.Laws.{number_spelled}
 use Rattle.dsd_values.specs.Reading.{cents_of}
 use Rattle.dsd_values.specs.declared.cents.TheConstants.Cents.{MAX as MOST_CENTS}
-use Rattle.dsd_values.specs.declared.allowance.Allowance.{Allowance}
 use Rattle.dsd_values.specs.declared.extra.Extra.{Extra}
 use Rattle.dsd_values.specs.declared.extra.Extra.TheVariants.{Allow, Note}
 use Rattle.dsd_values.specs.declared.limits.TheConstants.{MOST_LINES}
 use Rattle.dsd_values.specs.declared.line.Line.{Line}
-use Rattle.segments.specs.Allowances.{HasSize, has_size}
+use Rattle.segments.specs.Allowances.{has_size}
 use Rattle.segments.specs.Extras.{AreExtras, HasExtras, IsSized}
 
 -- ---- stated amounts

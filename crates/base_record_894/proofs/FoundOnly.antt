@@ -1,7 +1,6 @@
 -- What is read is a base record, and what is one is read.
-use Rattle.std.proofs.Common.{◌≡◌, ℕ, ◌+◌, ◌≤◌, ◌<◌, ◌&&◌, Bool, true, false, List, [], ◌∷◌, ◌++◌, length, Result, Ok, Err, Some, None, Option, IfOk, pos, refl, sym, ap, ◌∙◌, subst, arith, length-append}
+use Rattle.std.proofs.Common.{◌≡◌, ℕ, ◌+◌, ◌≤◌, Bool, true, false, List, [], ◌∷◌, ◌++◌, length, Ok, Some, None, Option, pos, refl, sym, ap, ◌∙◌, subst, arith}
 use Rattle.block_check.specs.Crc16.{crc_from}
-use Rattle.std.specs.List.{All}
 use Rattle.std.proofs.lemmas.List.Elements.{All-nil}
 use Rattle.dsd_pricing.specs.Pricing.{priced, quantities, totals_of}
 use Rattle.dsd_values.specs.declared.cents.TheConstants.Cents.{MAX as MOST_CENTS}
@@ -14,15 +13,11 @@ use Rattle.segments.specs.Views.{Seg, element_of}
 use Rattle.segments.specs.Kinds.{kind_of, next_phase, is_done}
 use Rattle.segments.specs.SoFar.{SoFar, kept, phase_in}
 use Rattle.segments.specs.Elements.{◌or_else◌}
-use Rattle.segments.specs.Reasons.{as_value, course_reason, admission}
-use Rattle.segments.specs.Refusal.{Refusal, refused_at, ended_at, Answers}
-use Rattle.segments.specs.Grammar.{Shared, IsSound}
-use Rattle.segments.specs.Closing.{IsClosed}
+use Rattle.segments.specs.Reasons.{as_value, admission}
+use Rattle.segments.specs.Grammar.{IsSound}
 use Rattle.segments.specs.SegmentSpelling.{SpellsSegments}
 use Rattle.segments.specs.SegmentCut.{Cut, cut_of}
 use Rattle.segments.specs.declared.segment_fault.SegmentFault.{SegmentFault}
-use Rattle.segments.specs.declared.set_fault.SetFault.{SetFault}
-use Rattle.segments.specs.declared.set_fault.SetFault.TheVariants as errors
 use Rattle.segments.specs.declared.seal.Seal.{Seal}
 use Rattle.segments.specs.declared.stated.StatedTotals.{StatedTotals}
 use Rattle.segments.specs.declared.kind.Kind.{Kind}
@@ -40,7 +35,7 @@ use Rattle.segments.proofs.Keeps.{Sound, is_sound, keeps, at_next, refused_none,
 use Rattle.base_record_894.specs.BaseRecord.{BaseRecord}
 use Rattle.base_record_894.specs.Grammar.{shared_of, AreSegments, FromStart}
 use Rattle.base_record_894.specs.RecordText.{Is894}
-use Rattle.base_record_894.specs.Said.{Said, nothing, own_reason, reason_of, answer_reason, rows_reason, kept_by, after, is_whole, has_head}
+use Rattle.base_record_894.specs.Said.{Said, nothing, own_reason, reason_of, answer_reason, rows_reason, kept_by, after, has_head}
 use Rattle.base_record_894.specs.FirstRefusal.{judged}
 use Rattle.segments.specs.Refusal.{refusal_from, said_by}
 use Rattle.base_record_894.specs.ReadParts.{IsReadFrom, record_of, seal_of}
@@ -174,38 +169,27 @@ some_head : (h : Option Head) (head : Head) → Some head ≡ h → has_head h �
 some_head (Some h) head e = refl
 some_head None head e = cc
 
-abbrev amount_in : Parts → ℕ
-amount_in parts = parts.closed.totals.amount
+-- what was said to the end is this record
+pub record IsWhole (from : Phase) (m : Said) (b : BaseRecord) (s : Seal) (amount : ℕ) : Type 0 where
+  pub done : is_done from ≡ true
+  pub head : Some (head_of b) ≡ m.head
+  pub read : Read m.course (shared_of b s amount)
+  pub totals : (shared_of b s amount).totals ≡ m.course.totals
+  pub signature : b.signature ≡ m.course.signature
+  pub check : s.check ≡ m.course.integrity
 
--- the totals of what was read are those that were stated, where they agree with the rows
-totals_end : (m : SoFar) (parts : Parts) → IsClosed m parts.closed → m.totals.quantity ≡ quantities m.lines → (shared_of (record_of parts) (seal_of parts) (amount_in parts)).totals ≡ m.totals
-totals_end m parts c sums =
-    let quantity : quantities parts.closed.lines ≡ parts.closed.totals.quantity =
-    ap quantities c.lines ∙ sym sums ∙ ap (λ (u : StatedTotals). u.quantity) (sym c.totals) in
-    ap (λ (n : ℕ). record { quantity = n; amount = parts.closed.totals.amount; deposit = parts.closed.totals.deposit }) quantity ∙ c.totals
-
-price_end : (m : SoFar) (parts : Parts) → IsClosed m parts.closed → Agree m.totals m.lines m.extras
-    → totals_of parts.closed.lines parts.closed.extras ≡ Ok (record { quantity = quantities parts.closed.lines; amount = amount_in parts })
-price_end m parts c (sums, same, low) =
-    let cents : pos (amount_in parts) ≡ priced parts.closed.lines parts.closed.extras =
-    ap (λ (u : StatedTotals). pos u.amount) c.totals ∙ same ∙ ap (λ (u : List Line). priced u m.extras) (sym c.lines) ∙ ap (λ (u : List Extra). priced parts.closed.lines u) (sym c.extras) in
-    priced_totals parts.closed.lines parts.closed.extras (amount_in parts) (subst (λ (u : StatedTotals). u.amount ≤ MOST_CENTS) (sym c.totals) low) cents
-
-found_rest : (segs : List Seg) (m : Said) (before : List Seg) (place : ℕ) (fault : Option SegmentFault) (parts : Parts) → IsAt before m.course → refusal_from judged m place segs fault ≡ None
-    → IsReadFrom (said_by judged m segs) parts → Sums (said_by judged m segs).course
-    → Rest894 m.course.phase m (record_of parts) (seal_of parts) (amount_in parts) before segs
+found_rest : (segs : List Seg) (m : Said) (before : List Seg) (place : ℕ) (fault : Option SegmentFault) (b : BaseRecord) (s : Seal) (amount : ℕ) → IsAt before m.course → refusal_from judged m place segs fault ≡ None
+    → IsWhole phases.Done (said_by judged m segs) b s amount → Rest894 m.course.phase m b s amount before segs
 unfolding kept kept_by
-found_rest [] m before place fault parts at e r u =
+found_rest [] m before place fault b s amount at e w =
     let whole = and_both _ _ (ended_none _ place fault e).0 in
     let done = done_is m.course.phase whole.0 in
-    let behind : is_behind m.course.phase ≡ true = ap is_behind (sym done) in
-    subst (λ (p : Phase). Rest894 p m (record_of parts) (seal_of parts) (amount_in parts) before []) done
-    (sym r.head, ((r.closed.references, r.closed.lines, r.closed.extras, r.closed.control), totals_end m.course parts r.closed (u behind).0, r.closed.signature, r.closed.check, refl))
-found_rest (seg ∷ segs) m before place fault parts at e r u =
+    subst (λ (p : Phase). Rest894 p m b s amount before []) done (w.head, (w.read, w.totals, w.signature, w.check, refl))
+found_rest (seg ∷ segs) m before place fault b s amount at e w =
     let n = refused_none (reason_of m seg) seg.start _ e in
     let st = stands m seg n.0 in
-    let rest = found_rest segs (after m seg) (before ++ seg ∷ []) (seg.start + length seg.bytes) fault parts (at_after m before seg at) n.1 r u in
-    back m (record_of parts) (seal_of parts) (amount_in parts) before seg segs (m.course.count + 1) (crc_from m.course.check seg.bytes) m.course.phase (kind_of forms.Base seg) st.may.moves_on refl refl st.right at rest
+    let rest = found_rest segs (after m seg) (before ++ seg ∷ []) (seg.start + length seg.bytes) fault b s amount (at_after m before seg at) n.1 w in
+    back m b s amount before seg segs (m.course.count + 1) (crc_from m.course.check seg.bytes) m.course.phase (kind_of forms.Base seg) st.may.moves_on refl refl st.right at rest
 
 -- the totals have come where the set is whole
 whole_behind : (segs : List Seg) (m : Said) (place : ℕ) (fault : Option SegmentFault) → refusal_from judged m place segs fault ≡ None → is_behind (said_by judged m segs).course.phase ≡ true
@@ -214,32 +198,114 @@ whole_behind [] m place fault e =
     ap is_behind (sym (done_is m.course.phase whole.0))
 whole_behind (seg ∷ segs) m place fault e = whole_behind segs (after m seg) _ fault (refused_none (reason_of m seg) seg.start _ e).1
 
--- What is read is a base record.
-pub found : (text : List ℕ) (parts : Parts) → refusal_from judged nothing 0 (cut_of text).segments (cut_of text).fault ≡ None → IsReadFrom (said_by judged nothing (cut_of text).segments) parts
-    → Is894 (record_of parts) (seal_of parts) text
-found text parts e r =
+shaped : (segs : List Seg) (b : BaseRecord) (s : Seal) (amount : ℕ) → Rest894 phases.Start nothing b s amount [] segs → AreSegments b s amount segs
+shaped segs b s amount (texts, lines, extras, (r, l, x), shape) =
+    let one = subst (λ (t : List (List ℕ)). FromStart t lines extras b s amount [] segs) (sym r) shape in
+    let two = subst (λ (t : List Line). FromStart b.references t extras b s amount [] segs) (sym l) one in
+    subst (λ (t : List Extra). FromStart b.references b.lines t b s amount [] segs) (sym x) two
+
+-- the stated amount is what the rows come to
+priced_so : (m : SoFar) (b : BaseRecord) (amount : ℕ) → b.lines ≡ m.lines → b.extras ≡ m.extras → amount ≡ m.totals.amount → Agree m.totals m.lines m.extras
+    → totals_of b.lines b.extras ≡ Ok (record { quantity = quantities b.lines; amount = amount })
+priced_so m b amount l x same (sums, cents, low) =
+    let there : pos amount ≡ priced b.lines b.extras =
+    ap (λ (n : ℕ). pos n) same ∙ cents ∙ ap (λ (u : List Line). priced u m.extras) (sym l) ∙ ap (λ (u : List Extra). priced b.lines u) (sym x) in
+    priced_totals b.lines b.extras amount (subst (λ (n : ℕ). n ≤ MOST_CENTS) (sym same) low) there
+
+-- What is not refused is the base record that it says.
+pub found_so : (text : List ℕ) (b : BaseRecord) (s : Seal) (amount : ℕ) → refusal_from judged nothing 0 (cut_of text).segments (cut_of text).fault ≡ None
+    → IsWhole phases.Done (said_by judged nothing (cut_of text).segments) b s amount → Is894 b s text
+found_so text b s amount e w =
     let segs = (cut_of text).segments in
     let whole : SpellsSegments 0 segs text = spelled_of-cut text segs (ap (λ (f : Option SegmentFault). record { segments = segs; fault = f }) (no_fault judged segs nothing 0 (cut_of text).fault e)) in
     let none : 0 ≤ MOST_LINES = omega arith in
     let zero_in : 0 ≤ SET_BYTES = omega arith in
     let ends = whole_end segs nothing 0 (cut_of text).fault e (tt, none, All-nil HasExtras, no_extras false) (λ b. cc) zero_in in
-    let rest = found_rest segs nothing [] 0 (cut_of text).fault parts (refl, refl) e r ends.1 in
+    let m = (said_by judged nothing segs).course in
     let end : end_of 0 segs ≡ 0 + length text = end_at segs 0 text whole in
     record {
       segments = segs;
       spelled = whole;
-      amount = amount_in parts;
-      price = price_end (said_by judged nothing segs).course parts r.closed (ends.1 (whole_behind segs nothing 0 (cut_of text).fault e));
-      shape = shaped segs parts rest;
-      sound = subst (λ (t : List Line). IsSound t parts.closed.extras) (sym r.closed.lines) (subst (λ (x : List Extra). IsSound (said_by judged nothing segs).course.lines x) (sym r.closed.extras) (is_sound _ _ ends.0));
+      amount = amount;
+      price = priced_so m b amount w.read.1 w.read.2 (ap (λ (t : StatedTotals). t.amount) w.totals) (ends.1 (whole_behind segs nothing 0 (cut_of text).fault e));
+      shape = shaped segs b s amount (found_rest segs nothing [] 0 (cut_of text).fault b s amount (refl, refl) e w);
+      sound = subst (λ (t : List Line). IsSound t b.extras) (sym w.read.1) (subst (λ (x : List Extra). IsSound m.lines x) (sym w.read.2) (is_sound _ _ ends.0));
       short = omega (arith, end, ends.2);
     }
-  where
-    shaped : (segs : List Seg) (parts : Parts) → Rest894 phases.Start nothing (record_of parts) (seal_of parts) (amount_in parts) [] segs → AreSegments (record_of parts) (seal_of parts) (amount_in parts) segs
-    shaped segs parts (texts, lines, extras, (r, l, x), shape) =
-        let one = subst (λ (t : List (List ℕ)). FromStart t lines extras (record_of parts) (seal_of parts) (amount_in parts) [] segs) (sym r) shape in
-        let two = subst (λ (t : List Line). FromStart parts.closed.references.items t extras (record_of parts) (seal_of parts) (amount_in parts) [] segs) (sym l) one in
-        subst (λ (t : List Extra). FromStart parts.closed.references.items parts.closed.lines t (record_of parts) (seal_of parts) (amount_in parts) [] segs) (sym x) two
+
+-- what is said to the end where nothing is refused
+agreed_end : (segs : List Seg) (place : ℕ) (fault : Option SegmentFault) → refusal_from judged nothing place segs fault ≡ None → place ≤ SET_BYTES → Agree (said_by judged nothing segs).course.totals (said_by judged nothing segs).course.lines (said_by judged nothing segs).course.extras
+agreed_end segs place fault e p =
+    let none : 0 ≤ MOST_LINES = omega arith in
+    (whole_end segs nothing place fault e (tt, none, All-nil HasExtras, no_extras false) (λ b. cc) p).1 (whole_behind segs nothing place fault e)
+
+totals_so : (lines : List Line) (stated : StatedTotals) → stated.quantity ≡ quantities lines → record { quantity = quantities lines; amount = stated.amount; deposit = stated.deposit } ≡ stated
+totals_so lines stated sums = ap (λ (n : ℕ). record { quantity = n; amount = stated.amount; deposit = stated.deposit }) (sym sums)
+
+-- What is read is a base record.
+pub found : (text : List ℕ) (parts : Parts) → refusal_from judged nothing 0 (cut_of text).segments (cut_of text).fault ≡ None → IsReadFrom (said_by judged nothing (cut_of text).segments) parts
+    → Is894 (record_of parts) (seal_of parts) text
+found text parts e r =
+    let zero_in : 0 ≤ SET_BYTES = omega arith in
+    let m = (said_by judged nothing (cut_of text).segments).course in
+    let sums = agreed_end (cut_of text).segments 0 (cut_of text).fault e zero_in in
+    let quantity : parts.closed.totals.quantity ≡ quantities parts.closed.lines =
+    ap (λ (t : StatedTotals). t.quantity) r.closed.totals ∙ sums.0 ∙ ap quantities (sym r.closed.lines) in
+    found_so text (record_of parts) (seal_of parts) parts.closed.totals.amount e (record {
+      done = refl;
+      head = sym r.head;
+      read = (r.closed.references, r.closed.lines, r.closed.extras, r.closed.control);
+      totals = totals_so parts.closed.lines parts.closed.totals quantity ∙ r.closed.totals;
+      signature = r.closed.signature;
+      check = r.closed.check;
+    })
+
+-- the record that was said, with this head
+abbrev pub record_in : Head → SoFar → BaseRecord
+record_in h m = record {
+  flag = h.flag;
+  number = h.number;
+  day = h.day;
+  receiver_duns = h.receiver_duns;
+  receiver_place = h.receiver_place;
+  supplier_duns = h.supplier_duns;
+  supplier_place = h.supplier_place;
+  tail = h.tail;
+  references = m.references;
+  lines = m.lines;
+  extras = m.extras;
+  deposit = m.totals.deposit;
+  signature = m.signature;
+}
+
+head_there : (h : Option Head) → has_head h ≡ true → (head : Head) × (Some head ≡ h)
+head_there (Some head) e = (head, refl)
+head_there None e = cc
+
+whole_head : (segs : List Seg) (m : Said) (place : ℕ) (fault : Option SegmentFault) → refusal_from judged m place segs fault ≡ None → has_head (said_by judged m segs).head ≡ true
+whole_head [] m place fault e = (and_both _ _ (ended_none _ place fault e).0).1
+whole_head (seg ∷ segs) m place fault e = whole_head segs (after m seg) _ fault (refused_none (reason_of m seg) seg.start _ e).1
+
+-- What is not refused is some base record.
+pub some_record : (text : List ℕ) → refusal_from judged nothing 0 (cut_of text).segments (cut_of text).fault ≡ None → (b : BaseRecord) × (s : Seal) × Is894 b s text
+some_record text e =
+    let zero_in : 0 ≤ SET_BYTES = omega arith in
+    let segs = (cut_of text).segments in
+    let m = (said_by judged nothing segs).course in
+    let h = head_there (said_by judged nothing segs).head (whole_head segs nothing 0 (cut_of text).fault e) in
+    let sums = agreed_end segs 0 (cut_of text).fault e zero_in in
+    let seal : Seal = record { control = m.control; check = m.integrity } in (
+      record_in h.0 m,
+      seal,
+      found_so text (record_in h.0 m) seal m.totals.amount e (record {
+        done = refl;
+        head = h.1;
+        read = (refl, refl, refl, refl);
+        totals = totals_so m.lines m.totals sums.0;
+        signature = refl;
+        check = refl;
+      }),
+    )
 
 -- ---- what is the rest of a record stands to the end
 
@@ -259,14 +325,6 @@ pub record IsReadSo (m : Said) (b : BaseRecord) (s : Seal) (amount : ℕ) (place
   pub totals : (shared_of b s amount).totals ≡ (said_by judged m segs).course.totals
   pub signature : b.signature ≡ (said_by judged m segs).course.signature
   pub check : s.check ≡ (said_by judged m segs).course.integrity
-
-record IsWhole (from : Phase) (m : Said) (b : BaseRecord) (s : Seal) (amount : ℕ) : Type 0 where
-  done : is_done from ≡ true
-  head : Some (head_of b) ≡ m.head
-  read : Read m.course (shared_of b s amount)
-  totals : (shared_of b s amount).totals ≡ m.course.totals
-  signature : b.signature ≡ m.course.signature
-  check : s.check ≡ m.course.integrity
 
 at_end : (from : Phase) (m : Said) (b : BaseRecord) (s : Seal) (amount : ℕ) (before : List Seg) → Rest894 from m b s amount before [] → IsWhole from m b s amount
 at_end phases.Start m b s amount before (texts, lines, extras, left, rest) = absurd rest

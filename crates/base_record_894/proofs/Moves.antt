@@ -1,5 +1,5 @@
 -- What is left of a plain base record, by what was said so far; and a segment more of it, both ways.
-use Rattle.std.proofs.Common.{◌≡◌, ℕ, ℤ, ◌+◌, ◌==◌, Bool, true, false, not, List, [], ◌∷◌, ◌++◌, length, Result, Ok, Some, None, Option, refl, sym, ap, ◌∙◌, subst, append-nil, pos}
+use Rattle.std.proofs.Common.{◌≡◌, ℕ, ◌+◌, true, false, List, [], ◌∷◌, ◌++◌, Some, None, Option, refl, sym, ap, ◌∙◌, subst, pos}
 use Rattle.dsd_values.specs.Calendar.{Date}
 use Rattle.dsd_values.specs.declared.flag.Flag.{Flag}
 use Rattle.dsd_values.specs.declared.flag.Flag.TheVariants as flags
@@ -8,12 +8,12 @@ use Rattle.dsd_values.specs.declared.extra.Extra.{Extra}
 use Rattle.dsd_values.specs.declared.extra.Extra.TheVariants.{Allow, Note}
 use Rattle.dsd_values.specs.declared.line.Line.{Line}
 use Rattle.segments.specs.Views.{Seg}
-use Rattle.segments.specs.Tables.{totals_fault, totals_in, control_in}
+use Rattle.segments.specs.Tables.{totals_in}
 use Rattle.segments.specs.Kinds.{kind_of, next_phase}
 use Rattle.segments.specs.Extras.{is_note, kept_text}
-use Rattle.segments.specs.SoFar.{SoFar, in_line, kept, phase_in}
+use Rattle.segments.specs.SoFar.{in_line, kept, phase_in}
 use Rattle.segments.specs.Reasons.{course_reason}
-use Rattle.segments.specs.Grammar.{Shape, Shared, Body, Closing, Extras, Items, IsStart, IsSound}
+use Rattle.segments.specs.Grammar.{Shape, Body, Closing, Extras, Items, IsSound}
 use Rattle.segments.specs.declared.seal.Seal.{Seal}
 use Rattle.segments.specs.declared.kind.Kind.{Kind}
 use Rattle.segments.specs.declared.kind.Kind.TheVariants as kinds
@@ -21,7 +21,7 @@ use Rattle.segments.specs.declared.kind.Form.TheVariants as forms
 use Rattle.segments.specs.declared.phase.Phase.{Phase}
 use Rattle.segments.specs.declared.phase.Phase.TheVariants as phases
 use Rattle.segments.specs.declared.stated.StatedTotals.{StatedTotals}
-use Rattle.segments.proofs.Small.{both_none, none_then, no_value, value_none, at_ok, ok_at, ok_said, when_not, not_when, same_number, number_same}
+use Rattle.segments.proofs.Small.{both_none, none_then, no_value, value_none, at_ok, ok_at, ok_said, when_not, number_same}
 use Rattle.segments.proofs.Faultless.{start_right, right_start}
 use Rattle.segments.proofs.Rest.{RestAt, Left, Ending, AfterItems, IsAt}
 use Rattle.segments.proofs.Back.{moves, is_course, back as course_back}

@@ -1,5 +1,5 @@
 -- The record that is read is the one that its text spells.
-use Rattle.std.proofs.Common.{◌≡◌, ℕ, ◌+◌, length, List, [], ◌∷◌, Result, Ok, Err, Some, None, Option, IfOk, refl, sym, ap, ◌∙◌, subst}
+use Rattle.std.proofs.Common.{◌≡◌, ℕ, List, Result, Err, Some, None, Option, sym, ap, ◌∙◌, subst}
 use Rattle.dsd_values.specs.Calendar.{Date}
 use Rattle.dsd_values.specs.declared.extra.Extra.{Extra}
 use Rattle.dsd_values.specs.declared.flag.Flag.{Flag}
@@ -78,6 +78,9 @@ pub not_refused : (text : List ℕ) (b : BaseRecord) (s : Seal) → Is894 b s te
 not_refused text b s is =
     let o = only text b s is in
     ap (λ (f : Option SegmentFault). refusal_from judged nothing 0 (cut_of text).segments f) o.1 ∙ o.0.none
+
+pub refused_not : (text : List ℕ) (refusal : Refusal) (b : BaseRecord) (s : Seal) → refusal_of text ≡ Some refusal → Is894 b s text → ⊥
+refused_not text refusal b s e is = let never : Some refusal ≡ None = sym e ∙ not_refused text b s is in cc
 
 -- the answers of a call that was refused
 pub only_err : {X Y : Type 0} (text : List ℕ) (e : SetFault) (r : Result X SetFault) (b : BaseRecord) (s : Seal) (P : Y → Type 0) (Q : X → Type 0) → r ≡ Err e → Answers (Err e) (refusal_of text) P

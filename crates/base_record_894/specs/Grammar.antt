@@ -1,6 +1,6 @@
 -- Which lists of segments are a base record (this project's profile): ST, G82, any N9, a loop of items where there are lines,
 -- any G72 and G23, G84, G86, G85, SE. An element spells a field where its reader answers that field.
-use Rattle.std.specs.Prelude.{◌≡◌, ℕ, List, [], Ok, Option}
+use Rattle.std.specs.Prelude.{◌≡◌, ℕ, List, [], Ok}
 use Rattle.dsd_values.specs.Calendar.{day_of}
 use Rattle.dsd_values.specs.Reading.{flag_of, delivery_number_of, word_of}
 use Rattle.dsd_pricing.specs.Pricing.{quantities}

@@ -1,5 +1,5 @@
 -- The element table of G82, the head of a base record (this project's profile).
-use Rattle.std.specs.Prelude.{ℕ, List, [], Option, Some, None}
+use Rattle.std.specs.Prelude.{[], Option}
 use Rattle.dsd_values.specs.Calendar.{Date, day_of}
 use Rattle.dsd_values.specs.Reading.{flag_of, delivery_number_of, word_of}
 use Rattle.dsd_values.specs.declared.flag.Flag.TheVariants as flags

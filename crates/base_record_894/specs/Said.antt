@@ -1,5 +1,5 @@
 -- What the segments of a base record say so far, and why the next one is refused.
-use Rattle.std.specs.Prelude.{ℕ, ℤ, ◌+◌, Bool, true, false, not, ◌&&◌, ◌==◌, pos, List, length, Option, Some, None}
+use Rattle.std.specs.Prelude.{ℕ, ℤ, ◌+◌, Bool, true, false, not, ◌&&◌, ◌==◌, pos, List, Option, Some, None}
 use Rattle.std.specs.Ordering.{int_eq}
 use Rattle.block_check.specs.Crc16.{crc_from}
 use Rattle.dsd_pricing.specs.Pricing.{priced, quantities}

@@ -93,5 +93,19 @@ fn scaled(units: u64, rest: u64, decimals: u32, places: u32) -> u64
     requires places { places ≤ 4 }
     ensures { result ≡ units * 10 ^ places + rest * 10 ^ (places - decimals) }
 {
-    units * 10u64.pow(places) + rest * 10u64.pow(places - decimals)
+    units * power_of_ten(places) + rest * power_of_ten(places - decimals)
+}
+
+/// From a table: `pow` takes a loop where the exponent is not known before.
+fn power_of_ten(exponent: u32) -> u64
+    requires { exponent ≤ 4 }
+    ensures { result ≡ 10 ^ exponent }
+{
+    match exponent {
+        0 => 1,
+        1 => 10,
+        2 => 100,
+        3 => 1_000,
+        _ => 10_000,
+    }
 }

@@ -27,6 +27,9 @@ impl Extra {
     }
 }
 
+/// How many extras a list has room for once it has one.
+const FIRST_ROOM: usize = 8;
+
 /// A list of extras.
 #[derive(Debug, Drop)]
 pub struct Extras {
@@ -51,10 +54,16 @@ impl Extras {
         }
     }
 
+    // Inlined, as each call around it is: so an extra, of some 300 bytes, is written once, in its place.
+    #[inline(always)]
     pub fn push(&mut self, item: Extra) -> Result<(), Memory>
         ensures ok { OnOk result (self.new ≡ self.old ++ item ∷ []) }
         ensures err { OnErr result (self.new ≡ self.old) }
     {
+        // An extra is large and is seldom alone: where lists grew by steps, the first few would be moved.
+        if self.items.is_empty() {
+            self.items.reserve(FIRST_ROOM)?;
+        }
         self.items.push(item)?;
         Ok(())
     }

@@ -1,6 +1,6 @@
 //! Texts that are kept as they came.
 
-ghost use Rattle.std.specs.Prelude.{◌≡◌, ◌≤◌, IfOk, length};
+ghost use Rattle.std.specs.Prelude.{◌≡◌, ◌≤◌, [], IfOk, length};
 ghost use Rattle.dsd_values.specs.Answers.{UnlessMemory};
 ghost use Rattle.dsd_values.specs.Reading.{kept_of};
 
@@ -35,6 +35,15 @@ impl Kept {
         }
         let bytes = Vec::from_slice(alloc, text)?;
         Ok(Kept { bytes })
+    }
+
+    /// The empty text, which takes no memory.
+    pub fn empty(alloc: Global) -> Kept
+        ensures { result ≡ [] }
+    {
+        Kept {
+            bytes: Vec::new(alloc),
+        }
     }
 
     pub fn as_slice(&self) -> &[u8]

@@ -85,6 +85,7 @@ impl Lines {
     }
 
     /// Adds an extra behind the last line, where there is one.
+    #[inline(always)]
     #[tactic(auto, using(crate::proofs::Behinds::with_extra_at, crate::proofs::Behinds::with_extra_none))]
     pub fn push_extra(&mut self, extra: Extra) -> Result<(), Memory>
         ensures ok { OnOk result (self.new ≡ with_extra extra self.old) }

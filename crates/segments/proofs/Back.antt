@@ -1,18 +1,17 @@
 -- A segment without a reason against it, before what is the rest behind it, is the front of the rest.
-use Rattle.std.proofs.Common.{◌≡◌, ℕ, ◌+◌, ◌==◌, Bool, true, false, not, nat_le, List, [], ◌∷◌, ◌++◌, length, Result, Ok, Err, Some, None, Option, refl, sym, ap, ◌∙◌, subst, append_assoc, append-nil}
-use Rattle.block_check.specs.Crc16.{crc_of}
+use Rattle.std.proofs.Common.{◌≡◌, ℕ, ◌+◌, Bool, true, false, List, [], ◌∷◌, ◌++◌, length, Ok, Some, None, Option, refl, sym, ap, ◌∙◌, subst, append_assoc, append-nil}
 use Rattle.dsd_values.specs.declared.extra.Extra.{Extra}
 use Rattle.dsd_values.specs.declared.extra.Extra.TheVariants.{Allow, Note}
 use Rattle.dsd_values.specs.declared.line.Line.{Line}
 use Rattle.dsd_values.specs.declared.signature.Signature.{Signature}
-use Rattle.segments.specs.Views.{Seg, element_of}
+use Rattle.segments.specs.Views.{Seg}
 use Rattle.segments.specs.Allowances.{IsAllowance, allowance_in}
 use Rattle.segments.specs.Extras.{allowances, extra_in, is_note, kept_text}
-use Rattle.segments.specs.Tables.{line_in, loop_id_in, totals_in, signature_in, integrity_in, stated_count_in, control_again_in}
+use Rattle.segments.specs.Tables.{line_in, loop_id_in, totals_in, stated_count_in, control_again_in}
 use Rattle.segments.specs.Kinds.{kind_of, next_phase}
 use Rattle.segments.specs.SoFar.{SoFar, in_line, lines_after, extras_after, kept, phase_in}
 use Rattle.segments.specs.Reasons.{allowance_reason, beside, course_reason}
-use Rattle.segments.specs.Grammar.{Shape, Shared, IsItem, IsSignature, IsTotals, Signed, Closing, Record, References, Body}
+use Rattle.segments.specs.Grammar.{Shape, Shared, IsItem, IsSignature, IsTotals, Closing, Record, References, Body}
 use Rattle.segments.specs.declared.stated.StatedTotals.{StatedTotals}
 use Rattle.segments.specs.declared.kind.Form.{Form}
 use Rattle.segments.specs.declared.kind.Form.TheVariants as forms
@@ -24,7 +23,7 @@ use Rattle.segments.proofs.Small.{both_none, not_when, no_value, same_bytes, sam
 use Rattle.segments.proofs.Faultless.{item_right, item_beside, loop_start_right, loop_end_right, totals_right, signature_right, integrity_right, trailer_right}
 use Rattle.segments.proofs.RightAllowances.{allowance_right}
 use Rattle.segments.proofs.Behind.{with_extras, with_extras_last, extended_by}
-use Rattle.segments.proofs.Rest.{RestAt, Left, Read, Ending, IsAt}
+use Rattle.segments.proofs.Rest.{RestAt, Left, Read, IsAt}
 
 abbrev pub moves : Option Phase → Bool
 moves (Some phase) = true

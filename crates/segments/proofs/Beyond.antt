@@ -1,10 +1,10 @@
 -- The elements behind the last listed one, read in turn.
-use Rattle.std.proofs.Common.{◌≡◌, ℕ, ◌+◌, ◌<◌, ◌≤◌, ◌==◌, Bool, true, false, List, [], ◌∷◌, length, drop, slice_index_or, add-one, refl, sym, ap, ◌∙◌, arith, Option, Some, None, if◌then◌else◌}
+use Rattle.std.proofs.Common.{◌≡◌, ℕ, ◌+◌, ◌<◌, ◌≤◌, ◌==◌, true, false, List, [], ◌∷◌, length, drop, slice_index_or, add-one, refl, ap, ◌∙◌, arith, Some, None}
 use Rattle.std.proofs.lemmas.Bool.Decides.{nat_tests}
 use Rattle.std.proofs.Math.Seq.{drop-cons}
 use Rattle.std.proofs.Math.ListN.{drop_of_length-le}
 use Rattle.dsd_values.specs.declared.fault.ValueFault.TheVariants as faults
-use Rattle.segments.specs.Elements.{ElementFault, filled_from}
+use Rattle.segments.specs.Elements.{filled_from}
 
 pub past_all : (n : ℕ) (parts : List (List ℕ)) → length parts ≤ n → filled_from n (drop n parts) ≡ None
 past_all n [] h = ap (filled_from n) (drop_of_length-le [] h)

@@ -1,17 +1,15 @@
 -- Segments whose elements are all right say what the grammar asks, and those that say it are right.
-use Rattle.std.proofs.Common.{◌≡◌, ℕ, ◌+◌, Bool, true, false, List, [], ◌∷◌, ◌++◌, Option, Some, None, Result, Ok, Err, drop, refl, sym, ap, ◌∙◌, if◌then◌else◌}
-use Rattle.std.specs.Str.{bytes_eq}
+use Rattle.std.proofs.Common.{◌≡◌, ℕ, Bool, true, false, List, [], ◌++◌, Option, Some, None, Ok, refl, sym, ap, ◌∙◌, if◌then◌else◌}
 use Rattle.dsd_values.specs.declared.extra.Extra.{Extra}
 use Rattle.dsd_values.specs.declared.line.Line.{Line}
 use Rattle.dsd_values.specs.declared.signature.Signature.{Signature}
-use Rattle.dsd_values.specs.declared.fault.ValueFault.TheVariants as faults
 use Rattle.segments.specs.Views.{Seg, element_of}
-use Rattle.segments.specs.Elements.{ElementFault, ◌or_else◌, said}
+use Rattle.segments.specs.Elements.{ElementFault}
 use Rattle.segments.specs.Tables.{item_fault, line_in, start_fault, control_in, loop_start_fault, loop_id_in, totals_fault, totals_in, signature_fault, signature_in, integrity_fault, integrity_in, trailer_fault, stated_count_in, control_again_in}
-use Rattle.segments.specs.Reasons.{loop_id_fault, loop_end_fault}
+use Rattle.segments.specs.Reasons.{loop_end_fault}
 use Rattle.segments.specs.Grammar.{IsStart, IsLoopId, IsItem, IsTotals, IsSignature, IsNoLonger}
 use Rattle.segments.specs.declared.stated.StatedTotals.{StatedTotals}
-use Rattle.dsd_values.specs.Reading.{check_of, plain_number_of, filled_word_of, word_between}
+use Rattle.dsd_values.specs.Reading.{check_of, plain_number_of, filled_word_of}
 use Rattle.segments.proofs.Small.{both_none, none_then, at_ok, ok_at, ok_said, are_empty, empty_ones, bytes_are, are_bytes}
 
 -- ---- items

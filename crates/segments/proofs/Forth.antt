@@ -1,21 +1,19 @@
 -- The front of the rest of a set is a segment without a reason against it, and the rest stands behind it.
-use Rattle.std.proofs.Common.{◌≡◌, ℕ, ◌+◌, ◌≤◌, ◌<◌, ◌==◌, Bool, true, false, not, nat_le, cond, List, [], ◌∷◌, ◌++◌, length, Result, Ok, Err, Some, None, Option, refl, sym, ap, ◌∙◌, subst, arith, append_assoc, append-nil, length-append}
+use Rattle.std.proofs.Common.{◌≡◌, ℕ, ◌+◌, ◌≤◌, ◌<◌, Bool, true, false, cond, List, [], ◌∷◌, ◌++◌, length, None, refl, sym, ap, ◌∙◌, subst, arith, append_assoc, append-nil, length-append}
 use Rattle.std.specs.List.{All}
-use Rattle.std.proofs.lemmas.List.Elements.{All-head, All-tail}
-use Rattle.dsd_values.specs.Behind.{extended}
 use Rattle.dsd_values.specs.declared.extra.Extra.{Extra}
 use Rattle.dsd_values.specs.declared.extra.Extra.TheVariants.{Allow, Note}
 use Rattle.dsd_values.specs.declared.allowance.Allowance.{Allowance}
 use Rattle.dsd_values.specs.declared.line.Line.{Line}
 use Rattle.dsd_values.specs.declared.limits.TheConstants.{MOST_ALLOWANCES, MOST_LINES}
-use Rattle.segments.specs.Views.{Seg, element_of}
+use Rattle.segments.specs.Views.{Seg}
 use Rattle.segments.specs.Allowances.{IsAllowance, allowance_in}
-use Rattle.segments.specs.Extras.{AreExtras, HasExtras, IsExtra, allowances, extra_in, is_allowance, is_note, kept_text}
-use Rattle.segments.specs.Tables.{line_in, loop_id_in, totals_in, signature_in, integrity_in, stated_count_in, control_again_in}
+use Rattle.segments.specs.Extras.{AreExtras, HasExtras, allowances, extra_in, is_note, kept_text}
+use Rattle.segments.specs.Tables.{line_in, integrity_in, stated_count_in, control_again_in}
 use Rattle.segments.specs.Kinds.{kind_of, next_phase}
 use Rattle.segments.specs.SoFar.{SoFar, in_line, lines_after, extras_after, kept, phase_in}
 use Rattle.segments.specs.Reasons.{allowance_reason, beside, course_reason, has_line, last_extras}
-use Rattle.segments.specs.Grammar.{Shape, Shared, IsItem, IsTotals, Extras, Items, LoopEnd, Closing, References, Record, Body, OneReference, AreApart, IsSound}
+use Rattle.segments.specs.Grammar.{Shared, IsItem, Extras, Items, LoopEnd, Closing, References, Body, OneReference, AreApart, IsSound}
 use Rattle.segments.specs.declared.kind.Form.{Form}
 use Rattle.segments.specs.declared.kind.Form.TheVariants as forms
 use Rattle.segments.specs.declared.kind.Kind.{Kind}
@@ -27,8 +25,7 @@ use Rattle.segments.proofs.Faultless.{right_item, line_said, right_loop_start, r
 use Rattle.segments.proofs.RightAllowances.{right_allowance, allowance_said}
 use Rattle.segments.proofs.Apart.{apart_at}
 use Rattle.segments.proofs.Behind.{extended_by, with_extras, with_extras_last, room_inside, room_beside}
-use Rattle.segments.proofs.Rest.{RestAt, Left, Read, Ending, AfterItems, IsAt}
-use Rattle.segments.proofs.Back.{moves}
+use Rattle.segments.proofs.Rest.{RestAt, Left, Ending, AfterItems, IsAt}
 
 module _ (form : Form) (m : SoFar) (t : Shared) (before : List Seg) (seg : Seg) (segs : List Seg) (count check : ℕ) (sound : IsSound t.lines t.extras) (at : IsAt before m) where
   abbrev pub Goes : Phase → Kind → Type 0
@@ -190,3 +187,12 @@ module _ (m : SoFar) (t : Shared) (before : List Seg) (seg : Seg) (segs : List S
   note_beside_on text extras i k (r, l, x, c) (is, rest) =
       let here : t.extras ≡ (m.extras ++ Note (kept_text seg) ∷ []) ++ extras = x ∙ ap (λ (u : List ℕ). m.extras ++ Note u ∷ extras) (sym is) ∙ sym (append_assoc m.extras (Note (kept_text seg) ∷ []) extras) in
       (k, refl, (extras, (r, lines_on forms.Base m t before seg segs count check sound at kinds.Note i refl l, extras_on forms.Base m t before seg segs count check sound at kinds.Note false _ extras i refl here, c), rest))
+
+  -- ---- and an answer
+
+  pub answer_reference_on : (text : List ℕ) (lines : List Line) (extras : List Extra) → Left m t (text ∷ []) [] lines extras
+      → OneReference forms.Answer text (Body forms.Answer lines extras t) before (seg ∷ segs) → Goes forms.Answer m t before seg segs count check sound at phases.References kinds.Reference
+  unfolding kept
+  answer_reference_on text lines extras (r, l, x, c) (k, is, rest) =
+      let here : t.references ≡ (m.references ++ kept_text seg ∷ []) ++ [] = r ∙ ap (λ (u : List ℕ). m.references ++ u ∷ []) (sym is) ∙ sym (append-nil (m.references ++ kept_text seg ∷ [])) in
+      (k, refl, (lines, extras, (here, l, x, c), rest))

@@ -21,7 +21,7 @@ use Rattle.segments.specs.SoFar.{SoFar, extras_after, in_line, kept, lines_after
 use Rattle.segments.specs.Allowances.{allowance_in}
 use Rattle.segments.specs.Extras.{AreExtras, HasExtras, IsSized, allowances, kept_text}
 use Rattle.segments.specs.Numbers.{HasRoom}
-use Rattle.segments.specs.Reasons.{allowance_reason, course_reason, admission, last_extras, order_reason, length_reason}
+use Rattle.segments.specs.Reasons.{allowance_reason, course_reason, admission, last_extras, order_reason}
 use Rattle.segments.specs.Refusal.{Refusal, refused_at, ended_at}
 use Rattle.segments.specs.Grammar.{AreApart, IsSound, bytes_of}
 use Rattle.segments.proofs.Small.{both_none, none_then, no_value, not_when, when_not, less, at_most, not_lt}

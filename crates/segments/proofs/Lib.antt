@@ -23,6 +23,7 @@ pub mod Cutting
 pub mod Refused
 pub mod Ordered
 pub mod Stops
+pub mod Bits
 pub mod Walk
 pub mod RightAllowances
 pub mod EmptyEnds

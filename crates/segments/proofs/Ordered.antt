@@ -1,5 +1,5 @@
 -- The phases tell what may follow.
-use Rattle.std.proofs.Common.{◌≡◌, ◌⊎◌, Bool, true, false, List, [], ◌∷◌, ◌++◌, Option, Some, None, refl, sym, ap, ◌∙◌, subst, inl, inr, append-nil, ◌↔◌}
+use Rattle.std.proofs.Common.{◌≡◌, true, List, [], ◌∷◌, ◌++◌, Option, Some, None, refl, sym, ap, ◌∙◌, subst, inl, inr, append-nil, ◌↔◌}
 use Rattle.segments.specs.declared.kind.Kind.{Kind}
 use Rattle.segments.specs.declared.kind.Kind.TheVariants as kinds
 use Rattle.segments.specs.declared.kind.Form.{Form}
@@ -8,7 +8,7 @@ use Rattle.segments.specs.declared.phase.Phase.{Phase}
 use Rattle.segments.specs.declared.phase.Phase.TheVariants as phases
 use Rattle.segments.specs.Kinds.{next_phase}
 use Rattle.segments.specs.SoFar.{phase_in}
-use Rattle.segments.specs.Order.{Kinds, This, Any, Nothing, Closing, Extras, Record, Behind, Body, References, InOrder, MayFollow, from_phase, phase_behind}
+use Rattle.segments.specs.Order.{Kinds, This, Nothing, Record, Behind, Body, References, InOrder, MayFollow, from_phase, phase_behind}
 use Rattle.segments.proofs.Back.{moves}
 
 -- what may come from a phase on

@@ -1,5 +1,5 @@
 -- Segment after segment, what is left is refused as the whole text is.
-use Rattle.std.proofs.Common.{◌≡◌, ℕ, ◌+◌, ◌≤◌, ◌<◌, List, [], ◌∷◌, length, Result, Ok, Err, Some, None, Option, refl, sym, ap, ◌∙◌, subst, ◌++◌, ◌⊎◌, inl, inr, Bool, true, false, arith, length-append}
+use Rattle.std.proofs.Common.{◌≡◌, ℕ, ◌+◌, ◌<◌, List, length, Result, Ok, Err, Some, None, Option, refl, sym, ap, ◌∙◌, subst, ◌++◌, inl, inr, true, false, arith, length-append}
 use Rattle.std.specs.List.{join_with_byte}
 use Rattle.std.specs.Result.{IsErr, IsErrAnd}
 use Rattle.segments.specs.Views.{Seg, Left}

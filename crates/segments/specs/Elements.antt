@@ -1,9 +1,9 @@
 -- What the elements of a segment say, and the first of them that is refused.
-use Rattle.std.specs.Prelude.{◌≡◌, ℕ, ◌+◌, ◌<◌, ◌==◌, ◌&&◌, List, [], ◌∷◌, length, drop, Option, Some, None, Result, Ok, Err, if◌then◌else◌}
+use Rattle.std.specs.Prelude.{◌≡◌, ℕ, ◌+◌, ◌==◌, List, [], ◌∷◌, length, drop, Option, Some, None, Result, Ok, Err, if◌then◌else◌}
 use Rattle.std.specs.List.{join_with_byte}
 use Rattle.dsd_values.specs.declared.fault.ValueFault.{ValueFault}
 use Rattle.dsd_values.specs.declared.fault.ValueFault.TheVariants as faults
-use Rattle.segments.specs.Views.{Seg, element_of}
+use Rattle.segments.specs.Views.{Seg}
 use Rattle.segments.specs.declared.item_fault.ItemFault.{ItemFault}
 use Rattle.segments.specs.declared.item_fault.ItemFault.TheVariants as errors
 

@@ -1,6 +1,6 @@
 -- What stands behind an item or at record level: allowances and notes, and the texts that are kept as they came (this project's
 -- profile).
-use Rattle.std.specs.Prelude.{◌≡◌, ◌≤◌, ℕ, Bool, true, false, List, [], ◌∷◌, length, All}
+use Rattle.std.specs.Prelude.{◌≡◌, ◌≤◌, ℕ, Bool, true, false, List, All}
 use Rattle.std.specs.List.{count_by}
 use Rattle.dsd_values.specs.declared.extra.Extra.{Extra}
 use Rattle.dsd_values.specs.declared.extra.Extra.TheVariants.{Allow, Note}

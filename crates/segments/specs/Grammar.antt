@@ -1,6 +1,6 @@
 -- Which lists of segments are sets: the grammar that both sets share (this project's profile), driven by the value. An
 -- element spells a field where its reader answers that field; dsd_values says of each reader which texts those are.
-use Rattle.std.specs.Prelude.{◌≡◌, ℕ, ◌+◌, ◌<◌, ◌≤◌, Bool, true, false, List, [], ◌∷◌, ◌++◌, length, drop, All, Ok, Option}
+use Rattle.std.specs.Prelude.{◌≡◌, ℕ, ◌+◌, ◌≤◌, Bool, true, false, List, [], ◌∷◌, ◌++◌, length, drop, All, Ok}
 use Rattle.std.specs.List.{flat_map}
 use Rattle.block_check.specs.Crc16.{crc_of}
 use Rattle.dsd_values.specs.Reading.{plain_number_of, dsd_of, quantity_of, total_quantity_of, cents_of, cost_of, check_of, word_of, filled_word_of, word_between}

@@ -1,6 +1,6 @@
 -- What segments are by their ids, whose names are those of X12, and which may stand where: the order of both sets (this
 -- project's profile).
-use Rattle.std.specs.Prelude.{ℕ, Bool, true, false, ◌&&◌, List, [], ◌∷◌, codes, Option, Some, None, if◌then◌else◌}
+use Rattle.std.specs.Prelude.{ℕ, Bool, true, false, ◌&&◌, List, codes, Option, Some, None, if◌then◌else◌}
 use Rattle.std.specs.Str.{bytes_eq}
 use Rattle.segments.specs.Views.{Seg, element_of}
 use Rattle.segments.specs.declared.kind.Kind.{Kind}

@@ -5,7 +5,6 @@ use Rattle.segments.specs.declared.kind.Kind.TheVariants as kinds
 use Rattle.segments.specs.declared.kind.Form.{Form}
 use Rattle.segments.specs.declared.kind.Form.TheVariants as forms
 use Rattle.segments.specs.declared.phase.Phase.{Phase}
-use Rattle.segments.specs.declared.phase.Phase.TheVariants as phases
 use Rattle.segments.specs.Kinds.{next_phase}
 
 -- what the kinds of the segments that are left may be

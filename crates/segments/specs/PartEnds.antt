@@ -1,5 +1,6 @@
 -- Where the parts of a segment end.
 use Rattle.std.specs.Prelude.{◌≡◌, ℕ, ◌+◌, ◌-◌, ◌==◌, if◌then◌else◌, slice_index, ◌^◌, ◌<◌, ◌≤◌, All, List, [], ◌∷◌, length}
+use Rattle.std.specs.Int.{bit_at}
 use Rattle.segments.specs.SegmentSpelling.{IsPart, Spells, SpellsSegment}
 use Rattle.segments.specs.SegmentCut.{parts_of, seg_at}
 
@@ -11,6 +12,10 @@ ends_from place (part ∷ more) = (place + length part) ∷ ends_from (place + l
 -- where the part with this number starts: behind the separator before it
 abbrev pub start_of : List ℕ → ℕ → ℕ
 start_of ends number = if number == 0 then 0 else slice_index ends (number - 1) + 1
+
+-- the lowest bit that is set
+abbrev pub IsFirstBit : ℕ → ℕ → Type 0
+IsFirstBit bits first = (bit_at bits first ≡ 1) × ((k : ℕ) → k < first → bit_at bits k ≡ 0)
 
 -- these bytes are their parts, joined, and a terminator, within the limit
 pub record IsSpelled (bytes : List ℕ) : Type 0 where

@@ -1,7 +1,7 @@
 -- The element tables of the segments that both sets have: which elements are refused, and what right ones say.
 -- Of each segment: the first element that is refused, and what it says where none is. Places, kinds and widths of elements
 -- are this project's profile.
-use Rattle.std.specs.Prelude.{ℕ, List, [], Option, Some, None}
+use Rattle.std.specs.Prelude.{ℕ, List, [], Option, None}
 use Rattle.dsd_values.specs.Reading.{plain_number_of, dsd_of, quantity_of, total_quantity_of, cents_of, cost_of, check_of, word_of, filled_word_of, word_between}
 use Rattle.dsd_values.specs.declared.line.Line.{Line}
 use Rattle.dsd_values.specs.declared.signature.Signature.{Signature}

@@ -9,11 +9,11 @@ ghost use Rattle.segments.specs.Elements.{Reads, at_element, optional, said};
 ghost use Rattle.segments.specs.Views.{element_of};
 
 use crate::elements::{
-    cost_at, filled_word_at, in_element, optional_cents_at, quantity_at, tail_at, word_at,
+    cost_at, filled_text_at, in_element, optional_cents_at, quantity_at, tail_at, word_text_at,
 };
 use crate::item_fault::ItemFault;
 use crate::segment::Segment;
-use dsd_values::{Allowance, Cost, Percent, Quantity, ValueFault, read_percent};
+use dsd_values::{Allowance, Cost, Percent, Quantity, ValueFault, Word, read_percent};
 use std::alloc::Global;
 
 /// The allowance of a G72 in a line or at record level: its nine elements, and the tail behind them. What must be there goes by the
@@ -42,26 +42,27 @@ fn parse_allowance(
 ) -> Result<Allowance, ItemFault>
     ensures { Reads result (allowance_fault in_line segment.now) (λ allowance. allowance ≡ allowance_in segment.now) }
 {
-    let code = filled_word_at(segment, 1)?;
-    let method = filled_word_at(segment, 2)?;
-    let number = word_at(segment, 3)?;
-    let exception = word_at(segment, 4)?;
+    let code = filled_text_at(segment, 1)?;
+    let method = filled_text_at(segment, 2)?;
+    let number = word_text_at(segment, 3)?;
+    let exception = word_text_at(segment, 4)?;
     let rate = optional_cost_at(segment, 5)?;
     refuse_missing(6, lacks_quantity(segment, in_line))?;
     let quantity = optional_quantity_at(segment, 6)?;
-    let unit = word_at(segment, 7)?;
+    let unit = word_text_at(segment, 7)?;
     refuse_missing(8, lacks_size(segment))?;
     let total = optional_cents_at(segment, 8)?;
     let percent = optional_percent_at(segment, 9)?;
     let tail = tail_at(alloc, segment, 10)?;
+    // The words are made last, each in its place: one that is made at its element is moved at each step behind it.
     Ok(Allowance {
-        code,
-        method,
-        number,
-        exception,
+        code: Word::new(code),
+        method: Word::new(method),
+        number: Word::new(number),
+        exception: Word::new(exception),
         rate,
         quantity,
-        unit,
+        unit: Word::new(unit),
         total,
         percent,
         tail,
@@ -96,7 +97,8 @@ fn lacks_quantity(segment: &Segment<'_>, in_line: bool) -> bool
 fn lacks_size(segment: &Segment<'_>) -> bool
     ensures { result ≡ lacks_its_size segment.now }
 {
-    counts(segment) && is_left_out(segment, 5) && is_left_out(segment, 8) && is_left_out(segment, 9)
+    // The cheapest test that is mostly false comes first.
+    is_left_out(segment, 5) && is_left_out(segment, 8) && is_left_out(segment, 9) && counts(segment)
 }
 
 /// Whether the method changes a price.

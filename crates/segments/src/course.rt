@@ -194,6 +194,7 @@ impl Course {
     }
 
     /// Adds an extra behind the last line or at record level.
+    #[inline(always)]
     fn push_extra(&mut self, extra: Extra) -> Result<(), Memory>
         requires sized { IsSized (in_line self.old.phase) extra }
         requires room { HasRoom extra (beside self.old) }

@@ -3,7 +3,7 @@
 ghost use Rattle.std.specs.Prelude.{◌≡◌, ◌+◌, ◌<◌, ◌≤◌, ℕ, [], None, length, IfOk, OnOk, Ok, Err};
 ghost use Rattle.std.specs.List.{join_with_byte};
 ghost use Rattle.dsd_values.specs.Answers.{UnlessMemory};
-ghost use Rattle.dsd_values.specs.Reading.{plain_number_of, dsd_of, quantity_of, total_quantity_of, cents_of, cost_of, check_of, word_of, filled_word_of, word_between};
+ghost use Rattle.dsd_values.specs.Reading.{IsElementText, plain_number_of, dsd_of, quantity_of, total_quantity_of, cents_of, cost_of, check_of, word_of, filled_word_of, word_between};
 ghost use Rattle.segments.specs.Extras.{kept_text};
 ghost use Rattle.segments.specs.Views.{element_of};
 ghost use Rattle.dsd_values.specs.declared.fault.ValueFault.TheVariants.{TooLong};
@@ -12,9 +12,9 @@ ghost use Rattle.segments.specs.Elements.{Reads, at_element, said, optional, no_
 use crate::item_fault::ItemFault;
 use crate::segment::Segment;
 use dsd_values::{
-    Cents, Check, Cost, DsdNumber, Kept, KeptFault, Quantity, ValueFault, WORD_BYTES, Word,
-    read_cents, read_check, read_cost, read_dsd, read_number, read_quantity, read_total_quantity,
-    read_word_between,
+    Cents, Check, Cost, DsdNumber, KEPT_BYTES, Kept, KeptFault, Quantity, ValueFault, WORD_BYTES,
+    Word, read_cents, read_check, read_cost, read_dsd, read_number, read_quantity,
+    read_total_quantity, read_word_between,
 };
 use std::alloc::Global;
 
@@ -28,22 +28,24 @@ pub fn in_element<V>(element: usize, answer: Result<V, ValueFault>) -> Result<V,
     }
 }
 
-/// An optional word: empty where the element is. The characters of an element are not judged again.
+/// The text of an optional word: empty where the element is. The characters of an element are not judged again.
 #[tactic(auto, using(crate::proofs::Ids::no_place))]
-pub fn word_at(segment: &Segment<'_>, element: usize) -> Result<Word, ItemFault>
-    ensures { Reads result (at_element element (word_of (element_of segment.now element))) (λ v. v ≡ said [] (word_of (element_of segment.now element))) }
+pub fn word_text_at<'a>(segment: &Segment<'a>, element: usize) -> Result<&'a [u8], ItemFault>
+    ensures value { Reads result (at_element element (word_of (element_of segment.now element))) (λ v. v.now ≡ said [] (word_of (element_of segment.now element))) }
+    ensures word { IfOk result (λ v. IsElementText v.now × (length v.now ≤ WORD_BYTES)) }
 {
     let text = segment.element(element);
     if text.len() > WORD_BYTES {
         return too_long(element, text.len());
     }
-    Ok(Word::new(text))
+    Ok(text)
 }
 
-/// A mandatory word.
+/// The text of a mandatory word.
 #[tactic(auto, using(crate::proofs::Ids::no_place))]
-pub fn filled_word_at(segment: &Segment<'_>, element: usize) -> Result<Word, ItemFault>
-    ensures { Reads result (at_element element (filled_word_of (element_of segment.now element))) (λ v. v ≡ said [] (filled_word_of (element_of segment.now element))) }
+pub fn filled_text_at<'a>(segment: &Segment<'a>, element: usize) -> Result<&'a [u8], ItemFault>
+    ensures value { Reads result (at_element element (filled_word_of (element_of segment.now element))) (λ v. v.now ≡ said [] (filled_word_of (element_of segment.now element))) }
+    ensures word { IfOk result (λ v. IsElementText v.now × (length v.now ≤ WORD_BYTES)) }
 {
     let text = segment.element(element);
     if text.is_empty() {
@@ -55,6 +57,22 @@ pub fn filled_word_at(segment: &Segment<'_>, element: usize) -> Result<Word, Ite
     if text.len() > WORD_BYTES {
         return too_long(element, text.len());
     }
+    Ok(text)
+}
+
+/// An optional word.
+pub fn word_at(segment: &Segment<'_>, element: usize) -> Result<Word, ItemFault>
+    ensures { Reads result (at_element element (word_of (element_of segment.now element))) (λ v. v ≡ said [] (word_of (element_of segment.now element))) }
+{
+    let text = word_text_at(segment, element)?;
+    Ok(Word::new(text))
+}
+
+/// A mandatory word.
+pub fn filled_word_at(segment: &Segment<'_>, element: usize) -> Result<Word, ItemFault>
+    ensures { Reads result (at_element element (filled_word_of (element_of segment.now element))) (λ v. v ≡ said [] (filled_word_of (element_of segment.now element))) }
+{
+    let text = filled_text_at(segment, element)?;
     Ok(Word::new(text))
 }
 
@@ -161,10 +179,25 @@ pub fn kept_at(alloc: Global, segment: &Segment<'_>) -> Result<Kept, ItemFault>
 }
 
 /// The elements from this number on, joined by `*`, without empty trailing ones.
+// Most segments end before their tail: that case alone is inlined.
+#[inline(always)]
 pub fn tail_at(alloc: Global, segment: &Segment<'_>, first: usize) -> Result<Kept, ItemFault>
     ensures { UnlessMemory ItemFault.Memory result (Ok (tail_from first segment.now)) }
 {
-    match Kept::new(alloc, without_end_stars(segment.tail_from(first))) {
+    let tail = segment.tail_from(first);
+    if tail.is_empty() {
+        return Ok(Kept::empty(alloc));
+    }
+    kept(alloc, tail)
+}
+
+/// Keeps a text without the stars at its end.
+#[inline(never)]
+fn kept(alloc: Global, text: &[u8]) -> Result<Kept, ItemFault>
+    requires { length text.now ≤ KEPT_BYTES }
+    ensures { UnlessMemory ItemFault.Memory result (Ok (trimmed text.now)) }
+{
+    match Kept::new(alloc, without_end_stars(text)) {
         Ok(kept) => Ok(kept),
         Err(KeptFault::Memory) => Err(ItemFault::Memory),
         Err(KeptFault::Long(_)) => unreachable!(),

@@ -55,6 +55,7 @@ impl RecordExtras {
         allowances(self.extras.as_slice())
     }
 
+    #[inline(always)]
     #[tactic(auto, using(crate::proofs::Behind::extras_push))]
     pub fn push(&mut self, extra: Extra) -> Result<(), Memory>
         requires sized { IsSized false extra }

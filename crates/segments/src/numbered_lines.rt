@@ -83,6 +83,7 @@ impl NumberedLines {
     }
 
     /// Adds an extra behind the last line.
+    #[inline(always)]
     pub fn push_extra(&mut self, extra: Extra) -> Result<(), Memory>
         requires sized { IsSized true extra }
         requires room { HasRoom extra (last_extras self.old) }

@@ -1,8 +1,8 @@
 ghost use Rattle.std.specs.Prelude.{◌≡◌, ◌+◌, ◌-◌, ◌<◌, ◌≤◌, ◌^◌, ◌&&◌, [], drop, length, slice_index_or, take};
-ghost use Rattle.std.specs.List.{join_with_byte, list_all};
+ghost use Rattle.std.specs.List.{join_with_byte};
 ghost use Rattle.segments.specs.PartEnds.{IsSpelled, ends_from, start_of};
 ghost use Rattle.segments.specs.SegmentCut.{parts_of, seg_at, with_parts};
-ghost use Rattle.segments.specs.SegmentSpelling.{IsPart, SpellsSegment, is_id as is_id_spelling, is_id_byte};
+ghost use Rattle.segments.specs.SegmentSpelling.{IsPart, SpellsSegment, is_id as is_id_spelling, is_id_byte as id_byte};
 ghost use Rattle.segments.specs.Views.{element_of};
 
 use crate::segment_body::PartEnds;
@@ -168,20 +168,22 @@ fn between(text: &[u8], start: usize, end: usize) -> &[u8]
     &text[start..end]
 }
 
+// By length first, so that no loop is needed: an id has two or three bytes.
+#[tactic(auto, using(crate::proofs::Ids::id_of_two, crate::proofs::Ids::id_of_three, crate::proofs::Ids::no_id))]
 fn is_id(id: &[u8]) -> bool
     ensures { result ≡ is_id_spelling id.now }
 {
     match id {
-        [first, more @ ..] => {
-            first.is_ascii_uppercase() && are_id_bytes(more) && 1 <= more.len() && more.len() <= 2
+        [first, second] => first.is_ascii_uppercase() && is_id_byte(*second),
+        [first, second, third] => {
+            first.is_ascii_uppercase() && is_id_byte(*second) && is_id_byte(*third)
         }
-        [] => false,
+        _ => false,
     }
 }
 
-fn are_id_bytes(text: &[u8]) -> bool
-    ensures { result ≡ list_all is_id_byte text.now }
+fn is_id_byte(byte: u8) -> bool
+    ensures { result ≡ id_byte byte }
 {
-    text.iter()
-        .all(|byte| byte.is_ascii_uppercase() || byte.is_ascii_digit())
+    byte.is_ascii_uppercase() || byte.is_ascii_digit()
 }

@@ -1,9 +1,9 @@
-ghost use Rattle.std.specs.Prelude.{ℕ, ◌≡◌, ◌≢◌, ◌+◌, ◌<◌, ◌≤◌, if◌then◌else◌, [], ◌∷◌, ◌++◌, length, slice_index, slice_index_or, take};
+ghost use Rattle.std.specs.Prelude.{ℕ, true, false, ◌≡◌, ◌≢◌, ◌+◌, ◌<◌, ◌≤◌, if◌then◌else◌, [], ◌∷◌, ◌++◌, length, slice_index, slice_index_or, take};
 ghost use Rattle.std.specs.Int.{bit_at};
 ghost use Rattle.arrayvec.specs.ArrayVec.{array_vec_len};
-ghost use Rattle.segments.specs.PartEnds.{ends_from};
-ghost use Rattle.segments.specs.SegmentCut.{body_length, parts_of};
-ghost use Rattle.segments.specs.SegmentSpelling.{is_element_character, is_star};
+ghost use Rattle.segments.specs.PartEnds.{IsFirstBit, ends_from};
+ghost use Rattle.segments.specs.SegmentCut.{body_length, is_outside, parts_of};
+ghost use Rattle.segments.specs.SegmentSpelling.{is_star};
 
 use arrayvec::ArrayVec;
 use std::simd::prelude::*;
@@ -23,7 +23,7 @@ pub struct Body {
 }
 
 /// The body at the front of these bytes, found in one pass: a block of bytes is looked at together, and then only those
-/// that end a part.
+/// that end a part. Past the end of the bytes a block has zeros, which are outside.
 pub fn body_at(front: &[u8]) -> Body
     requires { length front.now ≤ 513 }
     ensures length { result.length ≡ body_length front.now }
@@ -31,29 +31,18 @@ pub fn body_at(front: &[u8]) -> Body
 {
     let mut ends = ArrayVec::new();
     let mut place = 0;
-    while place < front.len() {
-        let block_end = place + BLOCK;
-        let mut stops = stops_in(block_at(front, place));
-        while stops != 0 {
-            let near = first_of(stops);
-            place += near;
-            if !has_star(front, place) {
-                return ended(ends, place);
-            }
-            push_end(&mut ends, place);
-            place += 1;
-            stops = behind(stops, near + 1);
+    let mut inside = BLOCK;
+    while inside == BLOCK {
+        let block = block_at(front, place);
+        inside = inside_of(block);
+        let mut stars = first_bits(stars_in(block), inside);
+        // A full list says too many: where the others stand is not asked.
+        while stars != 0 && ends.len() < ends.capacity() {
+            add_end(&mut ends, place + first_of(stars));
+            stars = without_first(stars);
         }
-        place = block_end;
+        place += inside;
     }
-    ended(ends, place)
-}
-
-fn ended(mut ends: PartEnds, place: usize) -> Body
-    requires { place ≤ 513 }
-    ensures length { result.length ≡ place }
-    ensures ends { result.ends.items ≡ take 32 (ends.items ++ place ∷ []) }
-{
     push_end(&mut ends, place);
     Body {
         length: place,
@@ -68,18 +57,20 @@ fn push_end(ends: &mut PartEnds, place: usize)
     ensures { ends.new.items ≡ take 32 (ends.old.items ++ place ∷ []) }
 {
     if ends.len() < ends.capacity() {
-        ends.push(place as u16);
+        add_end(ends, place);
     }
 }
 
-/// Whether a separator stands there.
-fn has_star(front: &[u8], place: usize) -> bool
-    ensures { result ≡ is_star (slice_index_or front.now place 0) }
+/// Notes one more end.
+fn add_end(ends: &mut PartEnds, place: usize)
+    requires place { place ≤ 513 }
+    requires room { length ends.old.items < 32 }
+    ensures { ends.new.items ≡ ends.old.items ++ place ∷ [] }
 {
-    place < front.len() && front[place] == b'*'
+    ends.push(place as u16);
 }
 
-/// The bytes from this place on, with zeros past the end: a zero ends a body, as the end does.
+/// The bytes from this place on, with zeros past the end.
 fn block_at(front: &[u8], place: usize) -> u8x32
     requires { place ≤ length front.now }
     ensures { (k : ℕ) → k < BLOCK → slice_index result k ≡ slice_index_or front.now (place + k) 0 }
@@ -104,30 +95,58 @@ fn last_block(front: &[u8], place: usize) -> u8x32
     u8x32::from_array(last)
 }
 
-/// Which bytes of a block end a part or the body, a bit for each from the lowest on.
-fn stops_in(block: u8x32) -> u64
-    ensures each { (k : ℕ) → k < BLOCK → bit_at result k ≡ (if is_element_character (slice_index block k) then 0 else 1) }
+/// How many bytes of a block stand before the first that is outside.
+fn inside_of(block: u8x32) -> usize
+    ensures few { result ≤ BLOCK }
+    ensures inside { (k : ℕ) → k < result → is_outside (slice_index block k) ≡ false }
+    ensures outside { result < BLOCK → is_outside (slice_index block result) ≡ true }
+{
+    let outside = outside_in(block);
+    if outside == 0 {
+        return BLOCK;
+    }
+    first_of(outside)
+}
+
+/// Which bytes of a block are outside, a bit for each from the lowest on.
+fn outside_in(block: u8x32) -> u64
+    ensures each { (k : ℕ) → k < BLOCK → bit_at result k ≡ (if is_outside (slice_index block k) then 1 else 0) }
     ensures past { (k : ℕ) → BLOCK ≤ k → bit_at result k ≡ 0 }
 {
-    let stops = block.simd_lt(u8x32::splat(b' '))
-        | block.simd_gt(u8x32::splat(b'~'))
-        | block.simd_eq(u8x32::splat(b'*'));
-    stops.to_bitmask()
+    let outside = block.simd_lt(u8x32::splat(b' ')) | block.simd_gt(u8x32::splat(b'~'));
+    outside.to_bitmask()
+}
+
+/// Which bytes of a block are separators, a bit for each from the lowest on.
+fn stars_in(block: u8x32) -> u64
+    ensures { (k : ℕ) → k < BLOCK → bit_at result k ≡ (if is_star (slice_index block k) then 1 else 0) }
+{
+    block.simd_eq(u8x32::splat(b'*')).to_bitmask()
 }
 
 /// The number of the lowest bit that is set.
 fn first_of(bits: u64) -> usize
     requires { bits ≢ 0 }
-    ensures set { bit_at bits result ≡ 1 }
-    ensures below { (k : ℕ) → k < result → bit_at bits k ≡ 0 }
+    ensures { IsFirstBit bits result }
 {
     bits.trailing_zeros() as usize
 }
 
-/// The bits from this one on.
-fn behind(bits: u64, from: usize) -> u64
-    requires { from < 64 }
-    ensures { (k : ℕ) → bit_at result k ≡ bit_at bits (from + k) }
+/// The first bits, of which there are so many.
+fn first_bits(bits: u64, count: usize) -> u64
+    requires { count ≤ BLOCK }
+    ensures kept { (k : ℕ) → k < count → bit_at result k ≡ bit_at bits k }
+    ensures past { (k : ℕ) → count ≤ k → bit_at result k ≡ 0 }
 {
-    bits >> from
+    bits & ((1 << count) - 1)
+}
+
+/// The bits without the lowest that is set.
+fn without_first(bits: u64) -> u64
+    requires { bits ≢ 0 }
+    ensures gone { (first : ℕ) → IsFirstBit bits first → bit_at result first ≡ 0 }
+    ensures others { (first k : ℕ) → IsFirstBit bits first → k ≢ first → bit_at result k ≡ bit_at bits k }
+    ensures fewer { result < bits }
+{
+    bits & (bits - 1)
 }

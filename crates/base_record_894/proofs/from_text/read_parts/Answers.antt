@@ -1,10 +1,10 @@
-use Rattle.std.proofs.Common.{◌≡◌, ℕ, ◌+◌, ◌≤◌, ◌<◌, length, Ok, Some, None, sym, ap, ap₂, ◌∙◌, arith, refl, subst, Option, length-append}
+use Rattle.std.proofs.Common.{◌≡◌, ℕ, ◌+◌, length, Ok, sym, ap, ◌∙◌, arith, subst, Option, length-append}
 use Rattle.std.specs.Option.{IfSome}
 use Rattle.segments.specs.Views.{Seg, Left}
-use Rattle.segments.specs.SegmentCut.{cut_left, cut_of, next_of, left_after, Cut}
+use Rattle.segments.specs.SegmentCut.{cut_left, left_after}
 use Rattle.segments.specs.SegmentSpelling.{IsFront}
-use Rattle.base_record_894.specs.Said.{Said, nothing, after}
-use Rattle.base_record_894.specs.FirstRefusal.{judged, refusal_of}
+use Rattle.base_record_894.specs.Said.{Said, after}
+use Rattle.base_record_894.specs.FirstRefusal.{judged}
 use Rattle.base_record_894.specs.ReadParts.{IsReadFrom}
 use Rattle.segments.proofs.Reading.{refusal_in, said_in, same_err, segment_ok, fault_answers, step_answers, end_answers, none_left, step_on, said_on, bytes_some}
 use Rattle.base_record_894.proofs.Moves.{counted}

@@ -1,6 +1,5 @@
-use Rattle.std.proofs.Common.{◌≡◌, ◌<◌, ◌≤◌, ◌+◌, length, slice_index_or, [], sym, ap, ◌∙◌, arith, Some, List, ℕ}
+use Rattle.std.proofs.Common.{◌≡◌, ◌<◌, ◌≤◌, length, slice_index_or, [], sym, ap, ◌∙◌, arith, Some, List, ℕ}
 use Rattle.dsd_values.specs.declared.fault.ValueFault.TheVariants.{TooLong}
-use Rattle.segments.specs.Elements.{filled_from}
 use Rattle.segments.proofs.Beyond.{past_all, empty_one, filled_one}
 use Rattle.segments.proofs.elements.end_of_elements.Goals as goal
 

@@ -1,4 +1,4 @@
-use Rattle.std.proofs.Common.{◌≡◌, ◌+◌, drop}
+use Rattle.std.proofs.Common.{◌≡◌, drop}
 use Rattle.segments.specs.Elements.{filled_from, no_more}
 use Rattle.segments.proofs.elements.end_of_elements.Given as goal
 

@@ -1,4 +1,3 @@
-use Rattle.std.proofs.Common.{◌≡◌, Ok, Err, sym, ◌∙◌}
 use Rattle.segments.proofs.Ids.{word_is}
 use Rattle.segments.proofs.refusing.not_yet.Goals as goal
 

@@ -1,16 +1,21 @@
-use Rattle.std.proofs.Common.{◌-◌, length}
+use Rattle.std.proofs.Common.{◌≡◌, ◌+◌, ◌-◌, ◌<◌, ◌≤◌, true, length, get_or}
+use Rattle.segments.specs.SegmentCut.{is_outside}
 use Rattle.segments.proofs.Scan.{Scanned}
 use Rattle.segments.proofs.Walk.{Walked}
 use Rattle.segments.proofs.segment_body.body_at.Given as goal
 
-abbrev pub invariant-loop-place : goal.invariant-loop-place
-invariant-loop-place l = Scanned l.front l.ends.items l.place
+abbrev pub invariant-loop-inside : goal.invariant-loop-inside
+invariant-loop-inside l = record {
+  scanned : Scanned l.front l.ends.items l.place;
+  few : l.inside ≤ 32;
+  outside : l.inside < 32 → is_outside (get_or l.front l.place 0) ≡ true;
+}
 
-abbrev pub decreases-loop-place : goal.decreases-loop-place
-decreases-loop-place l = length l.front - l.place
+abbrev pub decreases-loop-inside : goal.decreases-loop-inside
+decreases-loop-inside l = length l.front + l.inside - l.place
 
-abbrev pub invariant-loop-stops : goal.invariant-loop-stops
-invariant-loop-stops l = Walked l.front l.ends.items l.place l.block_end l.stops
+abbrev pub invariant-loop-stars : goal.invariant-loop-stars
+invariant-loop-stars l = Walked l.front l.ends.items l.place (l.place + l.inside) l.stars
 
-abbrev pub decreases-loop-stops : goal.decreases-loop-stops
-decreases-loop-stops l = l.block_end - l.place
+abbrev pub decreases-loop-stars : goal.decreases-loop-stars
+decreases-loop-stars l = l.stars

@@ -5,4 +5,4 @@ use Rattle.segments.proofs.segment_body.first_of.Goals as goal
 pub returns : goal.returns
 returns c =
     let h = bit_at-trailing_zeros w64 c.args.bits (omega (arith, c.requires)) c.ranges.bits.fits in
-    record { set = h.1; below = h.2 }
+    (h.1, h.2)

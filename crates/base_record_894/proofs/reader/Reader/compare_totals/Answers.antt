@@ -1,4 +1,4 @@
-use Rattle.std.proofs.Common.{◌≡◌, ap, ◌∙◌}
+use Rattle.std.proofs.Common.{ap, ◌∙◌}
 use Rattle.base_record_894.specs.Said.{Said}
 use Rattle.base_record_894.proofs.Totalled.{rows_said}
 use Rattle.base_record_894.proofs.reader.Reader.compare_totals.Goals as goal

@@ -1,6 +1,4 @@
-use Rattle.std.proofs.Common.{◌≡◌, ap, ◌∙◌}
-use Rattle.segments.specs.Extras.{allowances}
-use Rattle.segments.specs.Reasons.{beside}
+use Rattle.std.proofs.Common.{ap, ◌∙◌}
 use Rattle.segments.specs.SoFar.{SoFar, in_line}
 use Rattle.segments.proofs.RightAllowances.{allowance_refused}
 use Rattle.segments.proofs.course.Course.keep_allowance.Goals as goal

@@ -1,4 +1,4 @@
-use Rattle.std.proofs.Common.{rules, ◌≡◌, subst, sym}
+use Rattle.std.proofs.Common.{rules}
 use Rattle.segments.proofs.Trimmed.{table_push}
 use Rattle.segments.proofs.numbered_lines.NumberedLines.push.Goals as goal
 

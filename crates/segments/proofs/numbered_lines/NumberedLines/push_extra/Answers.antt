@@ -1,4 +1,4 @@
-use Rattle.std.proofs.Common.{◌≡◌, List, subst, sym}
+use Rattle.std.proofs.Common.{List, subst, sym}
 use Rattle.dsd_values.specs.declared.line.Line.{Line}
 use Rattle.segments.specs.Numbers.{HasRoom}
 use Rattle.segments.specs.Reasons.{last_extras}

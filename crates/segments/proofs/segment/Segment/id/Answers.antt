@@ -1,5 +1,4 @@
-use Rattle.std.proofs.Common.{◌≤◌, length, [], subst, sym, ap, ◌∙◌, IsTrue, List, ℕ, arith, slice_index_or}
-use Rattle.segments.specs.SegmentSpelling.{is_id}
+use Rattle.std.proofs.Common.{◌≤◌, length, subst, ap, arith}
 use Rattle.segments.specs.Views.{Seg, element_of}
 use Rattle.segments.proofs.Ids.{id_short}
 use Rattle.segments.proofs.segment.Segment.id.Goals as goal

@@ -1,0 +1,4 @@
+pub mod Levels
+pub mod Moves
+pub mod FoundOnly
+pub mod OneAnswer

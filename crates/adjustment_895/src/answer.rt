@@ -1,0 +1,156 @@
+//! An answer to a delivery.
+
+ghost use Rattle.std.specs.Prelude.{◌≡◌, ◌∷◌, [], length, None, Some, MatchOption};
+ghost use Rattle.adjustment_895.specs.Grammar.{has_none};
+ghost use Rattle.adjustment_895.specs.ReadParts.{answer_of, first_note as first_of, seal_of};
+ghost use Rattle.adjustment_895.specs.AnswerText.{IsAnswer};
+
+use crate::head::Head;
+use crate::parts::Parts;
+use dsd_values::{Cents, Check, DeliveryNumber, Flag, Kept, Level, Lines, Role, Signature, Word};
+use segments::{Closed, Seal, StatedTotals};
+use std::marker::Model;
+
+/// An acknowledgement, or an adjustment with its lines: a value that some text of a set 895 spells, however long its segments are.
+#[derive(Debug, Drop)]
+pub struct Answer895 {
+    head: Head,
+    note: Option<Kept>,
+    lines: Lines,
+    totals: StatedTotals,
+    signature: Signature,
+}
+
+impl Model for Answer895 {
+    ghost use Rattle.adjustment_895.specs.AnswerRecord.{AnswerRecord};
+    ghost use Rattle.adjustment_895.specs.AnswerText.{IsAnswer};
+
+    ghost Value = { AnswerRecord };
+
+    ghost view = { λ a. record { role = a.head.role; flag = a.head.flag; number = a.head.number; check = a.head.check; level = a.head.level; receiver_number = a.head.receiver_number; note = a.note; lines = a.lines; quantity = a.totals.quantity; amount = a.totals.amount; deposit = a.totals.deposit; signature = a.signature } };
+
+    ghost invariant = { λ a. IsAnswer (record { role = a.head.role; flag = a.head.flag; number = a.head.number; check = a.head.check; level = a.head.level; receiver_number = a.head.receiver_number; note = a.note; lines = a.lines; quantity = a.totals.quantity; amount = a.totals.amount; deposit = a.totals.deposit; signature = a.signature }) };
+}
+
+/// The answer and the seal of what was read.
+pub fn seal_up(parts: Parts) -> (Answer895, Seal)
+    requires { IsAnswer (answer_of parts) }
+    ensures answer { result.0 ≡ answer_of parts }
+    ensures seal { result.1 ≡ seal_of parts }
+{
+    let Parts { head, closed } = parts;
+    let Closed {
+        control,
+        references,
+        lines,
+        totals,
+        signature,
+        check,
+        ..
+    } = closed;
+    let answer = Answer895 {
+        head,
+        note: first_note(references),
+        lines,
+        totals,
+        signature,
+    };
+    (answer, Seal { control, check })
+}
+
+/// The first of these texts.
+fn first_note(texts: Vec<Kept>) -> Option<Kept>
+    ensures { result ≡ first_of texts.items }
+{
+    texts.into_iter().next()
+}
+
+impl Answer895 {
+    /// Who signs.
+    pub fn role(&self) -> Role
+        ensures { result ≡ self.now.role }
+    {
+        self.head.role
+    }
+
+    /// Whether the delivery is charged or credited.
+    pub fn flag(&self) -> Flag
+        ensures { result ≡ self.now.flag }
+    {
+        self.head.flag
+    }
+
+    pub fn number(&self) -> &DeliveryNumber
+        ensures { result.now ≡ self.now.number }
+    {
+        &self.head.number
+    }
+
+    /// The integrity value of the set that is answered.
+    pub fn check(&self) -> Check
+        ensures { result ≡ self.now.check }
+    {
+        self.head.check
+    }
+
+    /// Of an adjustment its own level, of an acknowledgement the accepted one.
+    pub fn level(&self) -> Level
+        ensures { result ≡ self.now.level }
+    {
+        self.head.level
+    }
+
+    /// The receiver's number.
+    pub fn receiver_number(&self) -> &Word
+        ensures { result.now ≡ self.now.receiver_number }
+    {
+        &self.head.receiver_number
+    }
+
+    /// Whether it accepts a version: whether it has no lines.
+    pub fn is_acknowledgement(&self) -> bool
+        ensures { result ≡ has_none self.now.lines }
+    {
+        self.lines.as_slice().is_empty()
+    }
+
+    /// The note of the head, as it is kept.
+    pub fn note(&self) -> Option<&Kept>
+        ensures { MatchOption result (self.now.note ≡ None) (λ text. self.now.note ≡ Some text.now) }
+    {
+        self.note.as_ref()
+    }
+
+    pub fn lines(&self) -> &Lines
+        ensures { result.now ≡ self.now.lines }
+    {
+        &self.lines
+    }
+
+    /// The sum of the quantities as it is stated.
+    pub fn quantity(&self) -> u32
+        ensures { result ≡ self.now.quantity }
+    {
+        self.totals.quantity
+    }
+
+    /// The amount as it is stated.
+    pub fn amount(&self) -> Cents
+        ensures { result ≡ self.now.amount }
+    {
+        self.totals.amount
+    }
+
+    /// Carried, without effect on the amount.
+    pub fn deposit(&self) -> Option<Cents>
+        ensures { result ≡ self.now.deposit }
+    {
+        self.totals.deposit
+    }
+
+    pub fn signature(&self) -> &Signature
+        ensures { result.now ≡ self.now.signature }
+    {
+        &self.signature
+    }
+}

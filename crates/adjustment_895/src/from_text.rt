@@ -1,0 +1,48 @@
+//! Reading an answer from its text.
+
+ghost use Rattle.std.specs.Prelude.{◌≡◌, length, IfOk, None};
+ghost use Rattle.segments.specs.Refusal.{Answers, IsWithin, said_by};
+ghost use Rattle.segments.specs.SegmentCut.{cut_of};
+ghost use Rattle.segments.specs.declared.seal.Seal.{Seal as SealValue};
+ghost use Rattle.adjustment_895.specs.AnswerRecord.{AnswerRecord};
+ghost use Rattle.adjustment_895.specs.AnswerText.{Is895};
+ghost use Rattle.adjustment_895.specs.Said.{nothing};
+ghost use Rattle.adjustment_895.specs.FirstRefusal.{judged, refusal_of};
+ghost use Rattle.adjustment_895.specs.ReadParts.{IsReadFrom};
+
+use crate::answer::{Answer895, seal_up};
+use crate::parts::Parts;
+use crate::reader::Reader;
+use segments::{Seal, SegmentReader, SetFault, next_segment};
+use std::alloc::Global;
+
+/// Reads an answer: its value and its seal.
+pub fn read_895(alloc: Global, text: &[u8]) -> Result<(Answer895, Seal), SetFault>
+    // What is read is spelled so.
+    ensures found { IfOk result (λ x. Is895 x.0 x.1 text.now) }
+
+    // What is spelled so is read, unless memory runs out.
+    ensures only { (answer : AnswerRecord) (seal : SealValue) → Is895 answer seal text.now → Answers result None (λ x. (x.0 ≡ answer) × (x.1 ≡ seal)) }
+
+    // It is refused at the first segment that has a reason against it, for its first one.
+    ensures exact { Answers result (refusal_of text.now) (λ _. Unit {0}) }
+    ensures within { IsWithin result (length text.now) }
+{
+    let parts = read_parts(alloc, text)?;
+    Ok(seal_up(parts))
+}
+
+/// Reads segment after segment.
+fn read_parts(alloc: Global, text: &[u8]) -> Result<Parts, SetFault>
+    ensures within { IsWithin result (length text.now) }
+    ensures exact { Answers result (refusal_of text.now) (IsReadFrom (said_by judged nothing (cut_of text.now).segments)) }
+{
+    let mut machine = Reader::new(alloc)?;
+    let mut segments = SegmentReader::new(text);
+    let mut place = 0;
+    while let Some(segment) = next_segment(&mut segments, place)? {
+        machine.step(&segment)?;
+        place = segment.end();
+    }
+    machine.finish(place)
+}

@@ -1,0 +1,119 @@
+//! The reader of an answer, pushed one segment at a time.
+
+ghost use Rattle.std.specs.Prelude.{◌≡◌, ◌+◌, ◌≤◌, length, IfOk, OnOk, None};
+ghost use Rattle.segments.specs.Reasons.{Says};
+ghost use Rattle.segments.specs.Refusal.{Answers, ended_at};
+ghost use Rattle.adjustment_895.specs.HeadTable.{head_in};
+ghost use Rattle.adjustment_895.specs.Said.{nothing, head_reason, level_in, level_reason, own_reason, reason_of, kept_by, after, is_whole};
+ghost use Rattle.adjustment_895.specs.ReadParts.{IsReadFrom};
+ghost use Rattle.segments.specs.declared.kind.Kind.TheVariants as kinds;
+
+use crate::head::{Head, is_past_levels, read_head};
+use crate::parts::Parts;
+use dsd_values::{Memory, SET_BYTES};
+use segments::{Course, Form, Kind, Segment, SetFault, SetReason, at, refuse};
+use std::alloc::Global;
+use std::marker::Model;
+
+/// An answer so far.
+#[derive(Drop)]
+pub struct Reader {
+    course: Course,
+    head: Option<Head>,
+}
+
+impl Model for Reader {
+    ghost use Rattle.adjustment_895.specs.Said.{Said};
+
+    ghost Value = { Said };
+
+    ghost view = { λ r. record { course = r.course; head = r.head } };
+}
+
+impl Reader {
+    /// Nothing has been read.
+    pub fn new(alloc: Global) -> Result<Reader, Memory>
+        ensures { IfOk result (λ reader. reader ≡ nothing) }
+    {
+        Ok(Reader {
+            course: Course::new(alloc)?,
+            head: None,
+        })
+    }
+
+    /// Takes one more segment.
+    #[tactic(auto, unfolding(crate::specs::Said::kept_by, crate::specs::Said::reason_of, segments::specs::SoFar::kept, segments::specs::SoFar::moved))]
+    pub fn step(&mut self, segment: &Segment<'_>) -> Result<(), SetFault>
+        requires { self.old.course.count ≤ SET_BYTES }
+        ensures exact { Says result segment.now.start (reason_of self.old segment.now) (λ _. self.new ≡ after self.old segment.now) }
+        ensures short { OnOk result (segment.now.start + length segment.now.bytes ≤ SET_BYTES) }
+    {
+        let kind = Kind::of(Form::Answer, segment);
+        self.refuse_loop(kind, segment)?;
+        let phase = self.course.admit(Form::Answer, kind, segment)?;
+        self.keep(kind, segment)?;
+        self.course.advance(phase, segment);
+        Ok(())
+    }
+
+    /// Refuses a loop in an answer of level 0.
+    fn refuse_loop(&self, kind: Kind, segment: &Segment<'_>) -> Result<(), SetFault>
+        ensures { Says result segment.now.start (level_reason kind self.now.head) (λ _. Unit {0}) }
+    {
+        match kind {
+            Kind::LoopStart if self.level() == 0 => refuse(segment, SetReason::Order),
+            _ => Ok(()),
+        }
+    }
+
+    /// The level that the head states.
+    fn level(&self) -> u8
+        ensures { result ≡ level_in self.now.head }
+    {
+        match &self.head {
+            Some(head) => head.level.get(),
+            None => 0,
+        }
+    }
+
+    /// Keeps what a segment of this kind says.
+    #[tactic(auto, unfolding(crate::specs::Said::kept_by, segments::specs::SoFar::kept))]
+    fn keep(&mut self, kind: Kind, segment: &Segment<'_>) -> Result<(), SetFault>
+        requires { self.old.course.count ≤ SET_BYTES }
+        ensures { Says result segment.now.start (own_reason self.old segment.now kind)
+            (λ _. self.new ≡ kept_by self.old segment.now kind self.old.course.phase self.old.course.count self.old.course.check) }
+    {
+        match kind {
+            Kind::Head => self.head = Some(head(segment)?),
+            kind => return self.course.keep(kind, segment),
+        }
+        Ok(())
+    }
+
+    /// What was read, where the set is whole; the place is the text's length.
+    pub fn finish(self, place: usize) -> Result<Parts, SetFault>
+        ensures { Answers result (ended_at (is_whole self) place None) (IsReadFrom self) }
+    {
+        let Reader { course, head } = self;
+        match head {
+            Some(head) if course.phase().is_done() => Ok(Parts {
+                head,
+                closed: course.close(),
+            }),
+            _ => Err(SetFault::Refused {
+                place,
+                reason: SetReason::Order,
+            }),
+        }
+    }
+}
+
+/// The head that a segment says. A level past the highest comes before the faults of its elements.
+fn head(segment: &Segment<'_>) -> Result<Head, SetFault>
+    ensures { Says result segment.now.start (head_reason segment.now) (λ head. head ≡ head_in segment.now) }
+{
+    if is_past_levels(segment.element(5)) {
+        return refuse(segment, SetReason::Limit);
+    }
+    at(segment, read_head(segment))
+}
