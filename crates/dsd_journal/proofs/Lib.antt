@@ -1,0 +1,7 @@
+mod Peeling
+mod Apart
+mod Refusing
+mod Titles
+mod Sizes
+mod Fronts
+mod Deciding

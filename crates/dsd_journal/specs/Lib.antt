@@ -1,0 +1,4 @@
+pub mod Headers
+pub mod JournalImage
+pub mod FirstBad
+pub mod Reading

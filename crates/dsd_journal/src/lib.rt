@@ -1,0 +1,12 @@
+//! The journal of an end: entries behind gates, which a stop leaves whole.
+#![tactic(auto)]
+
+mod entry;
+mod header;
+mod laws;
+mod limits;
+
+pub use entry::{Entry, EntryKind};
+pub use header::Header;
+pub use laws::{an_image_holds_one_list, an_image_is_held_or_refused};
+pub use limits::JOURNAL_BYTES;
