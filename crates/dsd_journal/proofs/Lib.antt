@@ -5,3 +5,4 @@ mod Titles
 mod Sizes
 mod Fronts
 mod Deciding
+mod Places

@@ -113,7 +113,7 @@ module _ (bytes : List ℕ) (long : length bytes ≡ 27) (fits : FitsBelow 27 by
   piece : (start i : ℕ) → i < 10 → start + 10 ≤ 27 → get_or (take 10 (drop start bytes)) i 0 ≡ get_or bytes (start + i) 0
   piece start i less inside = get_or-take 10 (drop start bytes) i 0 less ∙ get_or-drop start bytes i 0
 
-  id_at : (start : ℕ) → 6 ≤ start → start + 10 ≤ 26 → IsId (take 10 (drop start bytes))
+  pub id_at : (start : ℕ) → 6 ≤ start → start + 10 ≤ 26 → IsId (take 10 (drop start bytes))
   id_at start low high = record {
     ten = ten;
     text = id_text (take 10 (drop start bytes)) (λ i inside. (let less : i < 10 = omega (arith, inside, ten) in
@@ -171,6 +171,12 @@ module _ (bytes : List ℕ) (long : length bytes ≡ 27) (fits : FitsBelow 27 by
 
   pub header_leads : (rest : List ℕ) → Leads (header_of bytes) [] rest (bytes ++ rest)
   header_leads rest = record { titled = header_of_is; each = tt; split = ap (λ (l : List ℕ). l ++ rest) (sym header_of_spelled) }
+
+pub front_leads : (bytes : List ℕ) (n : ℕ) → n ≡ 27 → 27 ≤ length bytes → FitsBelow (length (take n bytes)) (take n bytes) → Leads (header_of (take n bytes)) [] (drop 27 bytes) bytes
+front_leads bytes n is long fits =
+    let whole : length (take n bytes) ≡ 27 = omega (arith, length-take n bytes, is, long) in
+    subst (λ l. Leads (header_of (take n bytes)) [] (drop 27 bytes) l) (ap (λ (k : ℕ). take n bytes ++ drop k bytes) (sym is) ∙ take-append-drop n bytes)
+    (header_leads (take n bytes) whole (subst (λ k. FitsBelow k (take n bytes)) whole fits) (drop 27 bytes))
 
 -- ---- an image that is refused in its header
 

@@ -1,5 +1,5 @@
 -- What is read of an image from left to right, of which more may come.
-use Rattle.std.specs.Prelude.{ℕ, ◌+◌, ◌*◌, ◌<◌, ◌≤◌, ◌≡◌, ◌≢◌, ◌⊎◌, ◌==◌, ◌||◌, ◌&&◌, not, nat_lt, nat_le, Option, Some, None, Result, Ok, Err, Bool, true, if◌then◌else◌, List, [], ◌∷◌, ◌++◌, length, take, drop, codes, slice_index_or}
+use Rattle.std.specs.Prelude.{ℕ, ◌+◌, ◌*◌, ◌<◌, ◌≤◌, ◌≡◌, ◌≢◌, ◌⊎◌, ◌==◌, ◌||◌, ◌&&◌, not, nat_lt, nat_le, false, Option, Some, None, Result, Ok, Err, Bool, true, if◌then◌else◌, List, [], ◌∷◌, ◌++◌, length, take, drop, codes, slice_index_or}
 use Rattle.std.specs.Int.{w32, to_be_bytes}
 use Rattle.dsd_values.specs.Reading.{is_no_id_byte}
 use Rattle.dsd_values.specs.declared.role.Role.{Role}
@@ -29,6 +29,13 @@ role_of_letter letter = if letter == 72 then Supplier else Receiver
 -- the header of 27 bytes
 abbrev pub header_of : List ℕ → Header
 header_of bytes = record { role = role_of_letter (slice_index_or bytes 5 0); own = take 10 (drop 6 bytes); peer = take 10 (drop 16 bytes) }
+
+-- the bytes of which 27 are wanted: they end before that, or have one that may not stand in a header at its place
+pub record IsMistitled (bytes : List ℕ) (place : ℕ) : Type 0 where
+  pub low : place < 27
+  pub inside : place ≤ length bytes
+  pub before : FitsBelow place bytes
+  pub cause : (place ≡ length bytes) ⊎ ((place < length bytes) × (header_fits place (slice_index_or bytes place 0) ≡ false))
 
 -- ---- the length of a payload, four bytes with the greatest first
 

@@ -1,7 +1,9 @@
 //! The journal of an end: entries behind gates, which a stop leaves whole.
 #![tactic(auto)]
 
+mod entries;
 mod entry;
+mod front;
 mod header;
 mod laws;
 mod limits;
