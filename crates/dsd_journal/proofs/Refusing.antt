@@ -9,7 +9,7 @@ use Rattle.dsd_journal.specs.declared.header.Header.{Header}
 use Rattle.dsd_journal.specs.Headers.{header_bytes}
 use Rattle.dsd_journal.specs.JournalImage.{open_gate, kind_letter, body, spelled, gate_place, EachFits, IsPayloadLength, Leads, IsJournal, Holds}
 use Rattle.dsd_journal.specs.FirstBad.{Begins, StopsAt, Outgrows, IsRefused, Outgrown, Stopped}
-use Rattle.dsd_journal.specs.Reading.{StartsEntry, IsWhole, IsUnfinished, IsBad, NoEntry, TooFar, IsStuck, NoGate, Shut, Unfinished}
+use Rattle.dsd_journal.specs.Reading.{StartsEntry, IsWhole, IsUnfinished, IsBad, NoEntry, TooFar}
 use Rattle.dsd_journal.proofs.Peeling.{Ahead, one_front, shut_ahead, heads, tails, sized_apart, body_apart, body_split, body_length, gate_ahead, spelled_append, header_length}
 use Rattle.dsd_journal.proofs.Apart.{size_ahead}
 

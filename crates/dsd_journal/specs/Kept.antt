@@ -1,8 +1,7 @@
 -- The entries that are kept in memory, each with its place.
-use Rattle.std.specs.Prelude.{ℕ, ◌+◌, ◌-◌, ◌<◌, ◌≡◌, List, [], ◌∷◌, length, min, vec_len, vec_capacity}
-use Rattle.dsd_journal.specs.declared.limits.TheConstants.{JOURNAL_BYTES}
+use Rattle.std.specs.Prelude.{ℕ, ◌+◌, List, [], ◌∷◌, length}
 use Rattle.dsd_journal.specs.declared.entry.Entry.{Entry}
-use Rattle.dsd_journal.specs.JournalImage.{body, gate_place, EachFits}
+use Rattle.dsd_journal.specs.JournalImage.{body}
 
 -- the places of the entries' kinds, where the first gate stands at this one
 abbrev pub places_from : ℕ → List Entry → List ℕ

@@ -10,7 +10,7 @@ use Rattle.dsd_journal.specs.declared.entry.EntryKind.{EntryKind}
 use Rattle.dsd_journal.specs.declared.entry.EntryKind.TheVariants.{Signed, Took}
 use Rattle.dsd_journal.specs.declared.entry.Entry.{Entry}
 use Rattle.dsd_journal.specs.declared.header.Header.{Header}
-use Rattle.dsd_journal.specs.JournalImage.{open_gate, kind_letter, body, IsPayloadLength}
+use Rattle.dsd_journal.specs.JournalImage.{open_gate, kind_letter, body, spelled, gate_place, EachFits, IsPayloadLength}
 
 -- ---- the header, a byte at a time
 
@@ -97,11 +97,29 @@ pub data IsBad (gate : ℕ) (behind : List ℕ) (place : ℕ) : Type 0 where
   TooFar : (kind : EntryKind) (size : ℕ) (rest : List ℕ) → IsPayloadLength size → behind ≡ kind_letter kind ∷ (to_be_bytes w32 size ++ rest) → JOURNAL_BYTES ≤ gate + 6 + size → place ≡ gate + 1
       → IsBad gate behind place
 
--- No entry can be taken from these bytes, which begin with a gate: they end there, or the gate is closed, or the bytes end behind it.
-pub data IsStuck (gate : ℕ) (bytes : List ℕ) : Type 0 where
-  NoGate : bytes ≡ [] → IsStuck gate bytes
-  Shut : (byte : ℕ) (rest : List ℕ) → bytes ≡ byte ∷ rest → byte ≢ open_gate → IsStuck gate bytes
-  Unfinished : (behind : List ℕ) → bytes ≡ open_gate ∷ behind → IsUnfinished gate behind → IsStuck gate bytes
+-- the gate at the front is closed
+abbrev pub IsShut : List ℕ → Type 0
+IsShut bytes = (byte : ℕ) × (rest : List ℕ) × (bytes ≡ byte ∷ rest) × (byte ≢ open_gate)
+
+-- the bytes end before the gate, or inside the entry behind it
+abbrev pub IsWaiting : ℕ → List ℕ → Type 0
+IsWaiting gate bytes = (bytes ≡ []) ⊎ ((behind : List ℕ) × (bytes ≡ open_gate ∷ behind) × IsUnfinished gate behind)
+
+-- ---- entries taken from the front of bytes
+
+pub record Takes (old new : List Entry) (bytes rest : List ℕ) : Type 0 where
+  pub more : List Entry
+  pub each : EachFits more
+  pub list : new ≡ old ++ more
+  pub split : bytes ≡ spelled more ++ rest
+
+-- Behind some entries that were taken stands an open gate that has its place, and no entry behind it.
+pub record MeetsBad (old : List Entry) (bytes : List ℕ) (place : ℕ) : Type 0 where
+  pub new : List Entry
+  pub behind : List ℕ
+  pub takes : Takes old new bytes (open_gate ∷ behind)
+  pub near : gate_place new < JOURNAL_BYTES
+  pub bad : IsBad (gate_place new) behind place
 
 -- the kind of a letter
 abbrev pub kind_of_letter : ℕ → Option EntryKind
