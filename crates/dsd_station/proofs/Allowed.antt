@@ -78,7 +78,7 @@ fine_step s (Sync (Stopped pick)) fine fits = record {
 fine_step s (Listen (Ok answer)) fine fits = record { keeps = fine.keeps; may = fine.may; long = fine.long; left = fine.left }
 fine_step s (Listen (Err failed)) fine fits = record { keeps = fine.keeps; may = fine.may; long = fine.long; left = fine.left }
 fine_step s (Speak bytes Done) fine fits = record { keeps = fine.keeps; may = fine.may; long = fine.long; left = fine.left }
-fine_step s (Speak bytes Failing) fine fits = fine
+fine_step s (Speak bytes Failing) fine fits = record { keeps = fine.keeps; may = fine.may; long = fine.long; left = fine.left }
 fine_step s (Speak bytes (Stopped pick)) fine fits = record {
   keeps = fine.keeps;
   may = fine.may;

@@ -1,15 +1,16 @@
 -- What holds of each station in memory holds after each call.
-use Rattle.std.proofs.Common.{◌≡◌, ℕ, ◌+◌, ◌-◌, ◌^◌, ◌<◌, min, List, [], ◌∷◌, ◌++◌, length, take, drop, Bool, true, false, if◌then◌else◌, refl, sym, ◌∙◌, ap, subst, arith, Result, Ok, Err, length-append, append_assoc, append-nil, inl, inr}
+use Rattle.std.proofs.Common.{◌≡◌, ℕ, ◌+◌, ◌-◌, ◌^◌, ◌<◌, ◌≤◌, min, List, [], ◌∷◌, ◌++◌, length, take, drop, Bool, true, false, if◌then◌else◌, refl, sym, ◌∙◌, ap, subst, arith, Result, Ok, Err, length-append, append_assoc, append-nil, inl, inr}
 use Rattle.std.proofs.lemmas.List.{take-append-drop, take-append-le, drop-append-le, drop_all}
 use Rattle.dsd_station.specs.declared.failed.Failed.{Failed}
 use Rattle.dsd_station.specs.declared.call.Call.{Call}
-use Rattle.dsd_station.specs.Causes.{HasCause}
+use Rattle.dsd_station.specs.Causes.{HasCause, Rose}
 use Rattle.dsd_station.specs.Feeds.{counted}
 use Rattle.dsd_station.specs.Planned.{Plan}
 use Rattle.dsd_station.specs.Told.{Told}
 use Rattle.dsd_station.specs.Replayed.{State, step, state_of, told_from, IsFine}
 use Rattle.dsd_station.specs.ByPlan.{answered, EachAnswered}
-use Rattle.dsd_station.specs.Logged.{Log, told_by, has_failed, failed_in, is_refused, played, starving, planned, Plays, IsPlayed}
+use Rattle.dsd_station.specs.Failures.{has_failed, failed_in, is_refused}
+use Rattle.dsd_station.specs.Logged.{Log, told_by, played, starving, planned, Plays, IsPlayed}
 use Rattle.dsd_station.proofs.Saying.{heard_is, gone_is}
 use Rattle.dsd_station.proofs.Tying.{state_push}
 use Rattle.dsd_station.specs.Notes.{Fits}
@@ -24,9 +25,30 @@ failed_in-push : (calls : List Call) (c : Call) → failed_in (calls ++ c ∷ []
 failed_in-push [] c = omega arith
 failed_in-push (x ∷ calls) c = let more = failed_in-push calls c in omega (arith, more)
 
+one_at_most : (b : Bool) → (if b then 1 else 0) ≤ 1
+one_at_most true = omega arith
+one_at_most false = omega arith
+
+-- no more calls failed than were made
+pub failed_in_fewer : (calls : List Call) → failed_in calls ≤ length calls
+failed_in_fewer [] = omega arith
+failed_in_fewer (c ∷ calls) = let fewer = failed_in_fewer calls in let one = one_at_most (has_failed c) in omega (arith, fewer, one)
+
+-- Of a record in memory the count of faults never stands at its last value: it is how many calls failed, and one more at least where
+-- one failed for want of memory.
+pub faults_exact : (log : Log) → IsPlayed log → length log.calls < 2 ^ 63 → log.starved ≡ false → log.faults ≡ failed_in log.calls
+faults_exact log was short fed = let fewer = failed_in_fewer log.calls in let is = was.faults fed in omega (arith, fewer, short, is)
+
+pub faults_wanted : (log : Log) → IsPlayed log → length log.calls < 2 ^ 63 → log.starved ≡ true → failed_in log.calls < log.faults
+faults_wanted log was short starved = let fewer = failed_in_fewer log.calls in let rose = was.wanted starved in omega (arith, fewer, short, rose)
+
 count_more : (b : Bool) (faults failed : ℕ) → faults ≡ min failed (2 ^ 64 - 1) → (if b then counted faults else faults) ≡ min (failed + (if b then 1 else 0)) (2 ^ 64 - 1)
 count_more true faults failed is = omega (arith, is)
 count_more false faults failed is = is ∙ ap (λ (n : ℕ). min n (2 ^ 64 - 1)) (let same : failed ≡ failed + 0 = omega arith in same)
+
+wanted_more : (b : Bool) (faults failed more : ℕ) → more ≡ failed + (if b then 1 else 0) → Rose failed faults → Rose more (if b then counted faults else faults)
+wanted_more true faults failed more is rose = omega (arith, is, rose)
+wanted_more false faults failed more is rose = omega (arith, is, rose)
 
 pub played_is : (log : Log) (c : Call) → IsPlayed log → c ≡ answered log.plan log.calls c → Fits (state_of log.calls) c → IsPlayed (played log c)
 played_is log c was is fits =
@@ -40,6 +62,7 @@ played_is log c was is fits =
       answers = subst (λ l. EachAnswered log.plan l (drop since (log.calls ++ c ∷ []))) (sym front)
           (subst (λ l. EachAnswered log.plan (take since log.calls) l) (sym back) (each_push log.plan (take since log.calls) (drop since log.calls) c was.answers answer));
       faults = λ fed. count_more (has_failed c) log.faults (failed_in log.calls) (was.faults fed) ∙ ap (λ (n : ℕ). min n (2 ^ 64 - 1)) (sym (failed_in-push log.calls c));
+      wanted = λ starved. wanted_more (has_failed c) log.faults (failed_in log.calls) (failed_in (log.calls ++ c ∷ [])) (failed_in-push log.calls c) (was.wanted starved);
       fine = subst IsFine (sym (state_push log.calls (log.calls ++ c ∷ []) c refl)) (fine_step (state_of log.calls) c was.fine fits);
       heard = heard_is (log.calls ++ c ∷ []);
       said = gone_is (log.calls ++ c ∷ []);
@@ -48,8 +71,21 @@ played_is log c was is fits =
 true_is_not_false : true ≡ false → ⊥
 true_is_not_false e = cc
 
+-- a fault that is not in the record
+wanted_one : (b : Bool) (faults failed : ℕ) → (b ≡ false → faults ≡ min failed (2 ^ 64 - 1)) → (b ≡ true → Rose failed faults) → Rose failed (counted faults)
+wanted_one true faults failed fed starved = let rose = starved refl in omega (arith, rose)
+wanted_one false faults failed fed starved = let is = fed refl in omega (arith, is)
+
 pub starving_is : (log : Log) → IsPlayed log → IsPlayed (starving log)
-starving_is log was = record { since = was.since; answers = was.answers; faults = λ fed. absurd (true_is_not_false fed); fine = was.fine; heard = was.heard; said = was.said }
+starving_is log was = record {
+  since = was.since;
+  answers = was.answers;
+  faults = λ fed. absurd (true_is_not_false fed);
+  wanted = λ starved. wanted_one log.starved log.faults (failed_in log.calls) was.faults was.wanted;
+  fine = was.fine;
+  heard = was.heard;
+  said = was.said;
+}
 
 pub planned_is : (log : Log) (plan : Plan) → IsPlayed log → IsPlayed (planned log plan)
 planned_is log plan was =
@@ -59,6 +95,7 @@ planned_is log plan was =
       since = omega arith;
       answers = subst (λ l. EachAnswered now (take (length log.calls) log.calls) l) (sym none) tt;
       faults = was.faults;
+      wanted = was.wanted;
       fine = was.fine;
       heard = was.heard;
       said = was.said;

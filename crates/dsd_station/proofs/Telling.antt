@@ -11,6 +11,7 @@ use Rattle.dsd_station.specs.Planned.{Plan}
 use Rattle.dsd_station.specs.Told.{Told}
 use Rattle.dsd_station.specs.Effects.{Same, Stays, Attaches, Reads, ReadsFront, Writes, Syncs, Listens, Speaks, answer_of, listened, heard_in}
 use Rattle.dsd_station.specs.Replayed.{State, step, told_from, taken}
+use Rattle.dsd_station.specs.Failures.{has_failed}
 use Rattle.dsd_station.specs.Logged.{Log, Plays, told_by}
 use Rattle.dsd_station.specs.Replayed.{state_of}
 use Rattle.dsd_station.proofs.Overlay.{torn_overwritten, torn_same, taken_fewer}
@@ -27,11 +28,14 @@ stays_refl t = record { past = refl; now = refl }
 
 -- ---- a call that did nothing, for want of memory
 
-reads_none : (call : Call) (t : Told) → Reads call t t
-reads_none call t = record { same = same_refl t; time = inr (stays_refl t); calls = inl refl }
+no_answer : (b : Bool) → b ≡ true → b ≡ false → ⊥
+no_answer b fails goes = cc
+
+reads_none : (call : Call) (t : Told) → has_failed call ≡ true → Reads call t t
+reads_none call t fails = record { same = same_refl t; time = inr (stays_refl t); moves = λ goes. absurd (no_answer (has_failed call) fails goes); calls = inl refl }
 
 attaches_none : (journal port : List ℕ) (t : Told) → Attaches journal port (Err (record {})) t t
-attaches_none journal port t = record { ok = tt; err = same_refl t; time = inr (stays_refl t); calls = inl refl }
+attaches_none journal port t = record { ok = tt; err = same_refl t; time = inr (stays_refl t); moves = tt; calls = inl refl }
 
 writes_none : (at : ℕ) (bytes : List ℕ) (t : Told) → Writes at bytes (Err (record {})) t t
 writes_none at bytes t = record {
@@ -51,10 +55,10 @@ syncs_none t = record {
 }
 
 listens_none : (into : List ℕ) (t : Told) → Listens into (Err (record {})) t t
-listens_none into t = record { ok = tt; err = same_refl t; time = inr (stays_refl t); calls = inl refl }
+listens_none into t = record { ok = tt; err = same_refl t; time = inr (stays_refl t); moves = tt; calls = inl refl }
 
 speaks_none : (bytes : List ℕ) (t : Told) → Speaks bytes (Err (record {})) t t
-speaks_none bytes t = record { same = same_refl t; ok = tt; err = inr (stays_refl t); calls = inl refl }
+speaks_none bytes t = record { same = same_refl t; ok = tt; err = inr (inr (stays_refl t)); calls = inl refl }
 
 -- ---- a call in the record
 
@@ -64,20 +68,22 @@ module _ (s : State) (calls : List Call) (plan : Plan) where
     ok = record { journal_name = refl; port_name = refl; journal = refl; heard = refl; syncs = refl; plan = refl };
     err = tt;
     time = inl (record { past = refl; now = refl });
+    moves = record { past = refl; now = refl };
     calls = inr refl;
   }
   attaches_so journal port (Err failed) = record {
     ok = tt;
     err = record { journal_name = refl; port_name = refl; journal = refl; heard = refl; syncs = refl; plan = refl };
     time = inl (record { past = refl; now = refl });
+    moves = tt;
     calls = inr refl;
   }
 
   size_so : (answer : Result ℕ Failed) → Reads (Size answer) (told_from s calls plan) (told_from (step s (Size answer)) (calls ++ Size answer ∷ []) plan)
-  size_so answer = record { same = record { journal_name = refl; port_name = refl; journal = refl; heard = refl; syncs = refl; plan = refl }; time = inl (record { past = refl; now = refl }); calls = inr refl }
+  size_so answer = record { same = record { journal_name = refl; port_name = refl; journal = refl; heard = refl; syncs = refl; plan = refl }; time = inl (record { past = refl; now = refl }); moves = λ goes. record { past = refl; now = refl }; calls = inr refl }
 
   read_so : (at room : ℕ) (answer : Result ℕ Failed) → Reads (Read at room answer) (told_from s calls plan) (told_from (step s (Read at room answer)) (calls ++ Read at room answer ∷ []) plan)
-  read_so at room answer = record { same = record { journal_name = refl; port_name = refl; journal = refl; heard = refl; syncs = refl; plan = refl }; time = inl (record { past = refl; now = refl }); calls = inr refl }
+  read_so at room answer = record { same = record { journal_name = refl; port_name = refl; journal = refl; heard = refl; syncs = refl; plan = refl }; time = inl (record { past = refl; now = refl }); moves = λ goes. record { past = refl; now = refl }; calls = inr refl }
 
   writes_so : (at : ℕ) (bytes : List ℕ) (outcome : Outcome) → at ≤ length s.journal
       → Writes at bytes (answer_of outcome) (told_from s calls plan) (told_from (step s (Write at bytes outcome)) (calls ++ Write at bytes outcome ∷ []) plan)
@@ -129,12 +135,14 @@ module _ (s : State) (calls : List Call) (plan : Plan) where
     ok = record { journal_name = refl; port_name = refl; journal = refl; heard = refl; syncs = refl; plan = refl };
     err = tt;
     time = inl (record { past = refl; now = refl });
+    moves = record { past = refl; now = refl };
     calls = inr refl;
   }
   listens_so into (Err failed) = record {
     ok = tt;
     err = record { journal_name = refl; port_name = refl; journal = refl; heard = refl; syncs = refl; plan = refl };
     time = inl (record { past = refl; now = refl });
+    moves = tt;
     calls = inr refl;
   }
 
@@ -148,7 +156,7 @@ module _ (s : State) (calls : List Call) (plan : Plan) where
   speaks_so bytes Failing = record {
     same = record { journal_name = refl; port_name = refl; journal = refl; heard = refl; syncs = refl; plan = refl };
     ok = tt;
-    err = inr (record { past = refl; now = refl });
+    err = inr (inl (record { past = refl; now = refl }));
     calls = inr (Failing, refl, refl);
   }
   speaks_so bytes (Stopped pick) = record {
@@ -179,11 +187,11 @@ module _ (old new : Log) where
 
   pub size_told : (answer result : Result ℕ Failed) → Plays (Size answer) answer result old new → Reads (Size result) (told_by old) (told_by new)
   size_told answer result plays =
-      plays_told (λ r t. Reads (Size r) (told_by old) t) (Size answer) answer result old new plays (size_so (state_of old.calls) old.calls old.plan answer) (reads_none (Size (Err (record {}))) (told_by old))
+      plays_told (λ r t. Reads (Size r) (told_by old) t) (Size answer) answer result old new plays (size_so (state_of old.calls) old.calls old.plan answer) (reads_none (Size (Err (record {}))) (told_by old) refl)
 
   pub read_told : (at room : ℕ) (answer result : Result ℕ Failed) → Plays (Read at room answer) answer result old new → Reads (Read at room result) (told_by old) (told_by new)
   read_told at room answer result plays =
-      plays_told (λ r t. Reads (Read at room r) (told_by old) t) (Read at room answer) answer result old new plays (read_so (state_of old.calls) old.calls old.plan at room answer) (reads_none (Read at room (Err (record {}))) (told_by old))
+      plays_told (λ r t. Reads (Read at room r) (told_by old) t) (Read at room answer) answer result old new plays (read_so (state_of old.calls) old.calls old.plan at room answer) (reads_none (Read at room (Err (record {}))) (told_by old) refl)
 
   pub listens_told : (into : List ℕ) (answer : Result Answer Failed) (result : Result Heard Failed) → Plays (Listen answer) answer (listened into result) old new → Listens into result (told_by old) (told_by new)
   listens_told into answer result plays =
@@ -196,7 +204,7 @@ module _ (old new : Log) where
 
       none : (r : Result Heard Failed) → Err (record {}) ≡ listened into r → Listens into r (told_by old) (told_by old)
       none (Ok heard) is = absurd (no_ok (heard_in into heard) (Ok (heard_in into heard)) refl (sym is))
-      none (Err failed) is = record { ok = tt; err = same_refl (told_by old); time = inr (stays_refl (told_by old)); calls = inl refl }
+      none (Err failed) is = record { ok = tt; err = same_refl (told_by old); time = inr (stays_refl (told_by old)); moves = tt; calls = inl refl }
 
 answer_at : {T : Type 0} (b : Bool) (v : T) (r : Result T Failed) → r ≡ (if b then Err (record {}) else Ok v) → IfOk r (λ x. x ≡ v)
 answer_at true v (Ok x) is = absurd (no_ok x (Ok x) refl is)

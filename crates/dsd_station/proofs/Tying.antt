@@ -42,7 +42,7 @@ module _ (s : State) (journal sure : List ℕ) (pending : List (ℕ × List ℕ)
   note_tied (Listen (Ok answer)) note = record { journal = was.journal; sure = was.sure; pending = was.pending; spoken = was.spoken; left = was.left }
   note_tied (Listen (Err failed)) note = record { journal = was.journal; sure = was.sure; pending = was.pending; spoken = was.spoken; left = was.left }
   note_tied (Speak bytes Done) note = absurd note
-  note_tied (Speak bytes Failing) note = was
+  note_tied (Speak bytes Failing) note = record { journal = was.journal; sure = was.sure; pending = was.pending; spoken = was.spoken; left = was.left }
   note_tied (Speak bytes (Stopped pick)) note = absurd note
   note_tied Restart note = subst (λ l. IsTiedTo (restarted s l) journal sure pending spoken stopped image) (sym note) was
 

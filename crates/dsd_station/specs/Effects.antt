@@ -1,5 +1,5 @@
 -- What each call of a station does to what it tells.
-use Rattle.std.specs.Prelude.{ℕ, ◌+◌, ◌<◌, ◌≤◌, ◌≡◌, ◌⊎◌, List, [], ◌∷◌, ◌++◌, length, take, drop, map, Result, Ok, Err, OnOk, OnErr, IfOk}
+use Rattle.std.specs.Prelude.{ℕ, ◌+◌, ◌<◌, ◌≤◌, ◌≡◌, ◌⊎◌, List, [], ◌∷◌, ◌++◌, length, take, drop, map, false, Result, Ok, Err, OnOk, OnErr, IfOk}
 use Rattle.dsd_station.specs.declared.failed.Failed.{Failed}
 use Rattle.dsd_station.specs.declared.station.Heard.{Heard}
 use Rattle.dsd_station.specs.declared.station.Heard.TheVariants.{Bytes, Quiet, Unplugged}
@@ -10,6 +10,7 @@ use Rattle.dsd_station.specs.declared.call.Outcome.TheVariants.{Done, Failing, S
 use Rattle.dsd_station.specs.declared.call.Call.{Call}
 use Rattle.dsd_station.specs.declared.call.Call.TheVariants.{Attach, Write, Sync, Listen, Speak}
 use Rattle.dsd_station.specs.Disk.{overwritten, Torn}
+use Rattle.dsd_station.specs.Failures.{has_failed}
 use Rattle.dsd_station.specs.Told.{Told, Moment}
 
 -- All but the clock and the record is as here.
@@ -79,17 +80,20 @@ prefixes (x ∷ xs) = [] ∷ map (λ (p : List ℕ). x ∷ p) (prefixes xs)
 abbrev pub sending : Moment → List ℕ → List Moment
 sending m bytes = map (sent m) (prefixes bytes)
 
--- An attachment sets the two names, and one that fails changes nothing.
+-- An attachment sets the two names, and one that fails changes nothing. One that went well moved the clock.
 pub record Attaches (its_journal its_port : List ℕ) (result : Result (Unit {0}) Failed) (old new : Told) : Type 0 where
   pub ok : OnOk result (Same (with_names old its_journal its_port) new)
   pub err : OnErr result (Same old new)
   pub time : Passes old new [] old.now ⊎ Stays old new
+  pub moves : OnOk result (Passes old new [] old.now)
   pub calls : Adds (Attach its_journal its_port result) old new
 
--- A call that asks for the journal's length or for bytes of it changes nothing, also where it fails.
+-- A call that asks for the journal's length or for bytes of it changes nothing, also where it fails. One that
+-- went well moved the clock.
 pub record Reads (call : Call) (old new : Told) : Type 0 where
   pub same : Same old new
   pub time : Passes old new [] old.now ⊎ Stays old new
+  pub moves : has_failed call ≡ false → Passes old new [] old.now
   pub calls : Adds call old new
 
 -- n bytes of the journal from the place on stand at the front of the buffer, and what was behind stays. There is at least one, where
@@ -132,16 +136,17 @@ IsPiece (Bytes n) = (0 < n) × (n ≤ 64)
 IsPiece Quiet = Unit {0}
 IsPiece Unplugged = Unit {0}
 
--- A `listen` adds its answer to the list, and one that fails changes nothing.
+-- A `listen` adds its answer to the list and moves the clock, and one that fails changes nothing.
 pub record Listens (into : List ℕ) (result : Result Heard Failed) (old new : Told) : Type 0 where
   pub ok : IfOk result (λ heard. Same (with_heard old (old.heard ++ heard_in into heard ∷ [])) new)
   pub err : OnErr result (Same old new)
   pub time : Passes old new [] old.now ⊎ Stays old new
+  pub moves : OnOk result (Passes old new [] old.now)
   pub calls : Adds (Listen (listened into result)) old new
 
 -- A `speak` sends all its bytes, and one that fails some first part of them. At each moment within it some first part has gone out.
 pub record Speaks (bytes : List ℕ) (result : Result (Unit {0}) Failed) (old new : Told) : Type 0 where
   pub same : Same old new
   pub ok : OnOk result (Passes old new (sending old.now bytes) (sent old.now bytes))
-  pub err : OnErr result (((n : ℕ) × (n ≤ length bytes) × Passes old new (sending old.now bytes) (sent old.now (take n bytes))) ⊎ Stays old new)
+  pub err : OnErr result (((n : ℕ) × (n ≤ length bytes) × Passes old new (sending old.now bytes) (sent old.now (take n bytes))) ⊎ (Passes old new [] old.now ⊎ Stays old new))
   pub calls : AddsAs (λ (outcome : Outcome). Speak bytes outcome) result old new

@@ -3,6 +3,7 @@ pub mod Feeds
 pub mod Disk
 pub mod Planned
 pub mod Told
+pub mod Failures
 pub mod Effects
 pub mod Replayed
 pub mod ByPlan

@@ -1,10 +1,9 @@
 -- What a station in memory is seen as.
 use Rattle.std.specs.Prelude.{ℕ, ◌+◌, ◌-◌, ◌^◌, ◌≤◌, ◌≡◌, ◌⊎◌, min, List, [], ◌∷◌, ◌++◌, length, take, drop, Bool, true, false, if◌then◌else◌, Result, Ok, Err}
 use Rattle.dsd_station.specs.declared.failed.Failed.{Failed}
-use Rattle.dsd_station.specs.declared.call.Outcome.{Outcome}
-use Rattle.dsd_station.specs.declared.call.Outcome.TheVariants.{Done, Failing, Stopped}
 use Rattle.dsd_station.specs.declared.call.Call.{Call}
-use Rattle.dsd_station.specs.declared.call.Call.TheVariants.{Attach, Size, Read, Write, Sync, Listen, Speak, Restart}
+use Rattle.dsd_station.specs.Causes.{Rose}
+use Rattle.dsd_station.specs.Failures.{has_failed, failed_in}
 use Rattle.dsd_station.specs.Feeds.{counted}
 use Rattle.dsd_station.specs.Heard.{answers_in, said_in}
 use Rattle.dsd_station.specs.Planned.{Plan, no_plan}
@@ -30,29 +29,6 @@ told_by log = told_from (state_of log.calls) log.calls log.plan
 abbrev pub image_by : Log → List ℕ
 image_by log = image_or (state_of log.calls).left (state_of log.calls).journal
 
-abbrev pub is_failing : Outcome → Bool
-is_failing Done = false
-is_failing Failing = true
-is_failing (Stopped pick) = true
-
-abbrev pub is_refused : {T : Type 0} → Result T Failed → Bool
-is_refused (Ok answer) = false
-is_refused (Err failed) = true
-
-abbrev pub has_failed : Call → Bool
-has_failed (Attach journal port answer) = is_refused answer
-has_failed (Size answer) = is_refused answer
-has_failed (Read at room answer) = is_refused answer
-has_failed (Write at bytes outcome) = is_failing outcome
-has_failed (Sync outcome) = is_failing outcome
-has_failed (Listen answer) = is_refused answer
-has_failed (Speak bytes outcome) = is_failing outcome
-has_failed Restart = false
-
-abbrev pub failed_in : List Call → ℕ
-failed_in [] = 0
-failed_in (call ∷ calls) = (if has_failed call then 1 else 0) + failed_in calls
-
 -- with one call more in the record
 abbrev pub played : Log → Call → Log
 played log call = record { calls = log.calls ++ call ∷ []; plan = log.plan; faults = if has_failed call then counted log.faults else log.faults; starved = log.starved }
@@ -66,12 +42,13 @@ abbrev pub Plays : {T : Type 0} → Call → Result T Failed → Result T Failed
 Plays call answer result old new = ((new ≡ played old call) × (result ≡ answer)) ⊎ ((new ≡ starving old) × (result ≡ Err (record {})))
 
 -- What holds of each station in memory. Each answer since the plan last changed is the one that the plan and the record before it
--- give. The faults are those of the record, unless one was for want of memory. Each image that a stop left was one that it may leave.
+-- give. The faults are those of the record, and where one was for want of memory there is at least one more. Each image that a stop left was one that it may leave.
 -- What was heard and what went out are the record's.
 pub record IsPlayed (log : Log) : Type 0 where
   pub since : log.plan.since ≤ length log.calls
   pub answers : EachAnswered log.plan (take log.plan.since log.calls) (drop log.plan.since log.calls)
   pub faults : log.starved ≡ false → log.faults ≡ min (failed_in log.calls) (2 ^ 64 - 1)
+  pub wanted : log.starved ≡ true → Rose (failed_in log.calls) log.faults
   pub fine : IsFine (state_of log.calls)
   pub heard : (state_of log.calls).heard ≡ answers_in log.calls
   pub said : (state_of log.calls).now.gone ≡ said_in log.calls

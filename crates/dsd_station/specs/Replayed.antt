@@ -70,7 +70,7 @@ step s (Sync (Stopped pick)) = record (later s s.now) { syncs = s.syncs + 1; lef
 step s (Listen (Ok answer)) = record (later s s.now) { heard = s.heard ++ answer ∷ [] }
 step s (Listen (Err failed)) = later s s.now
 step s (Speak bytes Done) = spoke s bytes (sent s.now bytes)
-step s (Speak bytes Failing) = s
+step s (Speak bytes Failing) = later s s.now
 step s (Speak bytes (Stopped pick)) = record (spoke s bytes (sent s.now (take (taken pick (length bytes)) bytes))) { left = Some (picked pick s.now.sure s.pending) }
 step s Restart = restarted s s.left
 

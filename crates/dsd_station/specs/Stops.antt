@@ -95,6 +95,6 @@ speaks_stops bytes (Ok done) old new P call here all =
     (subst (λ l. Allows (sent old.now l) P) (take_all (length bytes) bytes (omega arith)) (all (length bytes)))
 speaks_stops bytes (Err failed) old new P call here all = go call.err
   where
-    go : ((n : ℕ) × (n ≤ length bytes) × Passes old new (sending old.now bytes) (sent old.now (take n bytes))) ⊎ Stays old new → EachStop old new P
+    go : ((n : ℕ) × (n ≤ length bytes) × Passes old new (sending old.now bytes) (sent old.now (take n bytes))) ⊎ (Passes old new [] old.now ⊎ Stays old new) → EachStop old new P
     go (inl some) = passed old new (sending old.now bytes) (sent old.now (take some.0 bytes)) P some.2 here (each_prefix (sent old.now) P bytes all) (all some.0)
-    go (inr stays) = stayed old new P stays here
+    go (inr rest) = at_rest old new P rest here

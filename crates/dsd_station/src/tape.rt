@@ -56,7 +56,8 @@ impl Tape {
 
     /// How many calls are in the record.
     pub fn len(&self) -> u64
-        ensures { result ≡ length self.now }
+        ensures value { result ≡ length self.now }
+        ensures short { length self.now < 2 ^ 63 }
     {
         self.calls.len() as u64
     }
@@ -75,14 +76,16 @@ impl Tape {
     }
 
     pub fn spoken(&self) -> &[u8]
-        ensures { result.now ≡ (state_of self.now).now.gone }
+        ensures value { result.now ≡ (state_of self.now).now.gone }
+        ensures short { length self.now < 2 ^ 63 }
     {
         &self.spoken
     }
 
     /// The image that a stop left, or the journal.
     pub fn image(&self) -> &[u8]
-        ensures { result.now ≡ image_or (state_of self.now).left (state_of self.now).journal }
+        ensures value { result.now ≡ image_or (state_of self.now).left (state_of self.now).journal }
+        ensures short { length self.now < 2 ^ 63 }
     {
         if self.stopped {
             &self.image

@@ -55,6 +55,26 @@ fn a_stop_leaves_what_its_pick_takes(rt: HostRuntime) {
     }
 }
 
+fn two_ranges<T: Station>(station: &mut T) -> Result<(), Failed> {
+    write_at_end(station, 0, b"abcdef")?;
+    write_at_end(station, 4, b"UVWX")?;
+    station.sync()
+}
+
+#[test]
+fn a_stop_takes_each_range_by_its_pick(rt: HostRuntime) {
+    for (pick, image) in [
+        (Pick::Keep, "abUVWX"),
+        (Pick::Drop, "......"),
+        (Pick::Half, "abUV.."),
+    ] {
+        let mut station = MemoryStation::new(rt.alloc());
+        station.arm_stop(3, pick);
+        let stopped = two_ranges(&mut station).is_err();
+        assert!(rt; stopped && is_shown(station.image(), image), "{image}");
+    }
+}
+
 fn go_on<T: Station>(station: &mut T) -> Result<bool, Failed> {
     let mut into = [0u8; 64];
     let heard = station.listen(&mut into)?;
@@ -95,7 +115,7 @@ fn a_failure_is_passed_over_and_can_be_taken_away(rt: HostRuntime) {
     station.arm_fail(1);
     station.disarm();
     station.arm_stop(2, Pick::Keep);
-    let worked = station.sync().is_ok();
+    let worked = station.speak(b"x").is_ok();
     let stopped = station.sync().is_err();
     assert!(rt; failed && worked && stopped && is_shown(station.image(), "abcd"));
 }

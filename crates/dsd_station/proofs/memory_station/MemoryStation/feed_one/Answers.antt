@@ -15,7 +15,7 @@ invariant_of-self-2 c =
     let was = c.self.invariant in
     let fed = inside.fed.items in
     let one : Fed = record { given = c.args.given; at = c.len-at.result } in
-    let now : c.len-at.result ≡ length inside.tape = c.len-at.ensures in
+    let now : c.len-at.result ≡ length inside.tape = c.len-at.ensures.value in
     let more : c.push.new.self.items ≡ fed ++ one ∷ [] = c.in_ok-push.ensures.items in
     record {
       due = ap (λ (l : List Fed). due_at l inside.cursor) more ∙ due_at-append fed one inside.cursor was.inside ∙ ap (λ (l : List Due). l ++ dues_of c.args.given) was.due

@@ -4,7 +4,8 @@ use Rattle.dsd_station.specs.Feeds.{counted}
 use Rattle.dsd_station.specs.Replayed.{state_of}
 use Rattle.dsd_station.specs.ByPlan.{answered, due_after, due_by, fail_off, stop_off}
 use Rattle.dsd_station.specs.Cursors.{due_at, IsIn}
-use Rattle.dsd_station.specs.Logged.{Log, IsPlayed, has_failed}
+use Rattle.dsd_station.specs.Failures.{has_failed}
+use Rattle.dsd_station.specs.Logged.{Log, IsPlayed}
 use Rattle.dsd_station.specs.Notes.{Fits}
 use Rattle.dsd_station.specs.Placed.{log_of}
 use Rattle.dsd_station.proofs.Planning.{due_by-push, fail_off-push, stop_off-push, fail_armed_later, stop_armed_later, fed_later}

@@ -17,7 +17,7 @@ invariant_of-self-2 c =
     let none : c.clear.new.self.items ≡ [] = c.clear.ensures.items in
     let tape : c.play.new.self ≡ inside.tape ++ Restart ∷ [] = search rules in
     let longer : length inside.tape ≤ length c.play.new.self = omega (arith, ap length tape, length-append inside.tape (Restart ∷ [])) in
-    let now : c.len-self-inside.result ≡ length (inside.tape ++ Restart ∷ []) = c.len-self-inside.ensures ∙ ap length tape in
+    let now : c.len-self-inside.result ≡ length (inside.tape ++ Restart ∷ []) = c.len-self-inside.ensures.value ∙ ap length tape in
     let fail_in : inside.fail_in ≡ fail_off inside.failure (inside.tape ++ Restart ∷ []) = omega (arith, was.failure, fail_off-push inside.failure inside.tape Restart was.failure_at) in
     let stop_in : inside.stop_in ≡ stop_off inside.stop (inside.tape ++ Restart ∷ []) = omega (arith, was.stop, stop_off-push inside.stop inside.tape Restart was.stop_at) in
     record {
