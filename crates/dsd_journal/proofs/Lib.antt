@@ -6,3 +6,4 @@ mod Sizes
 mod Fronts
 mod Deciding
 mod Places
+mod Takes
