@@ -7,3 +7,5 @@ mod Fronts
 mod Deciding
 mod Places
 mod Takes
+mod Looking
+mod Ends

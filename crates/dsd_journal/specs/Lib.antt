@@ -4,3 +4,7 @@ pub mod FirstBad
 pub mod Reading
 pub mod Kept
 pub mod Inside
+pub mod Journals
+pub mod Devices
+pub mod Steps
+pub mod Pieces
