@@ -1,6 +1,6 @@
 -- Entries taken one after the other.
-use Rattle.std.proofs.Common.{◌≡◌, ◌≢◌, ◌⊎◌, inl, inr, ℕ, ◌+◌, ◌<◌, ◌≤◌, List, [], ◌∷◌, ◌++◌, length, refl, sym, ◌∙◌, ap, subst, arith, append_assoc, length-append, Result, Ok, Err, IsErrAnd}
-use Rattle.std.proofs.lemmas.List.{append-nil}
+use Rattle.std.proofs.Common.{◌≡◌, ◌≢◌, ◌⊎◌, inl, inr, ℕ, ◌+◌, ◌<◌, ◌≤◌, List, [], ◌∷◌, ◌++◌, ◌-◌, length, drop, refl, sym, ◌∙◌, ap, subst, arith, append_assoc, length-append, Result, Ok, Err, IsErrAnd}
+use Rattle.std.proofs.lemmas.List.{append-nil, drop_at}
 use Rattle.dsd_journal.specs.declared.limits.TheConstants.{JOURNAL_BYTES}
 use Rattle.dsd_journal.specs.declared.entry.Entry.{Entry}
 use Rattle.dsd_journal.specs.declared.entry.EntryKind.{EntryKind}
@@ -61,3 +61,21 @@ leads_takes header es fs x y image t p = record {
 pub same_err : (T U E : Type 0) (r : Result T E) (x y : E) → IsErrAnd r (λ e. e ≡ x) → r ≡ Err y → (let a : Result U E = Err x in a) ≡ Err y
 same_err T U E (Ok v) x y h is = absurd h
 same_err T U E (Err e) x y h is = cc
+
+-- what is left of bytes of which a front was taken
+pub cut_is : (bytes front rest new : List ℕ) (n : ℕ) → new ≡ drop n bytes → n ≡ length bytes - length rest → bytes ≡ front ++ rest → new ≡ rest
+cut_is bytes front rest new n is count split =
+    let long : length front ≡ n = omega (arith, count, ap length split, length-append front rest) in is ∙ ap (λ (l : List ℕ). drop n l) split ∙ drop_at front rest n long
+
+-- the place behind the entries and the bytes stays
+pub takes_counted : (es fs : List Entry) (x y : List ℕ) → Takes es fs x y → gate_place es + length x ≡ gate_place fs + length y
+takes_counted es fs x y t = omega (arith, ap length t.split, length-append (spelled t.more) y, ap gate_place t.list, ap length (spelled_append es t.more), length-append (spelled es) (spelled t.more))
+
+-- bytes that wait for more are few
+pub waiting_short : (gate : ℕ) (bytes : List ℕ) → IsWaiting gate bytes → length bytes ≤ 262149
+waiting_short gate bytes (inl none) = omega (arith, ap length none)
+waiting_short gate bytes (inr w) = omega (arith, ap length w.1, w.2.short, body_length w.2.starts.entry, w.2.starts.sized.1)
+
+-- while bytes wait for more, the place is not far
+pub low_place : (at : ℕ) (es fs : List Entry) (x y : List ℕ) → at ≡ gate_place es + length x → Takes es fs x y → gate_place fs < JOURNAL_BYTES → IsWaiting (gate_place fs) y → at < 67371014
+low_place at es fs x y counted taken near waits = omega (arith, counted, takes_counted es fs x y taken, near, waiting_short (gate_place fs) y waits)

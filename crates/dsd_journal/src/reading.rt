@@ -75,3 +75,62 @@ fn is_shut(bytes: &[u8]) -> bool
         None => false,
     }
 }
+
+// Reads on until a closed gate stands behind the entries.
+fn read_entries<T: Station>(
+    alloc: Global,
+    station: &mut T,
+    reading: &mut Reading,
+    piece: &mut [u8],
+) -> Result<(), OpenFault>
+    requires counted { IsCounted reading.old }
+    requires piece { length piece.old ≡ PIECE_BYTES }
+    requires read { T.tells → IsRead (T.told station.old).journal reading.old }
+    ensures later { T.faults station.old ≤ T.faults station.new }
+    ensures cause { result ≡ Err OpenFault.Station → Rose (T.faults station.old) (T.faults station.new) }
+    ensures held { T.tells → OnOk result (Holds reading.new.header reading.new.entries.list (T.told station.old).journal) }
+    ensures refused { T.tells → (place : ℕ) → result ≡ Err (OpenFault.NotAJournal place) → IsRefused (T.told station.old).journal place }
+    ensures told { T.tells → Looks (result ≡ Err OpenFault.Station) (T.told station.old) (T.told station.new) }
+{
+    loop {
+        match take_front(alloc, &mut reading.entries, &mut reading.bytes) {
+            Err(fault) => return Err(fault),
+            Ok(true) => return Ok(()),
+            Ok(false) => {}
+        }
+        match read_more(station, reading.at, &mut reading.bytes, piece) {
+            Err(fault) => return Err(fault),
+            Ok(0) => return Err(OpenFault::NotAJournal(reading.at)),
+            Ok(count) => reading.at += count,
+        }
+    }
+}
+
+// Reads the journal that the station's image holds: its header and its entries.
+pub(crate) fn read_journal<T: Station>(
+    alloc: Global,
+    station: &mut T,
+) -> Result<(Header, Entries), OpenFault>
+    ensures later { T.faults station.old ≤ T.faults station.new }
+    ensures cause { result ≡ Err OpenFault.Station → Rose (T.faults station.old) (T.faults station.new) }
+    ensures held { T.tells → IfOk result (λ read. Holds read.0 read.1.list (T.told station.old).journal) }
+    ensures refused { T.tells → (place : ℕ) → result ≡ Err (OpenFault.NotAJournal place) → IsRefused (T.told station.old).journal place }
+    ensures told { T.tells → Looks (result ≡ Err OpenFault.Station) (T.told station.old) (T.told station.new) }
+{
+    let Ok(mut piece) = vec![in alloc; 0u8; PIECE_BYTES] else {
+        return Err(OpenFault::Memory);
+    };
+    let mut bytes = Vec::new(alloc);
+    let at = match read_front(station, &mut bytes, &mut piece) {
+        Err(fault) => return Err(fault),
+        Ok(at) => at,
+    };
+    let mut reading = match begin(alloc, bytes, at) {
+        Err(place) => return Err(OpenFault::NotAJournal(place as u64)),
+        Ok(reading) => reading,
+    };
+    match read_entries(alloc, station, &mut reading, &mut piece) {
+        Err(fault) => Err(fault),
+        Ok(()) => Ok((reading.header, reading.entries)),
+    }
+}
