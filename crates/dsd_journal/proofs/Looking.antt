@@ -1,5 +1,5 @@
 -- Calls that only look at the journal, one after the other.
-use Rattle.std.proofs.Common.{◌≡◌, ◌≢◌, ◌⊎◌, inl, inr, ℕ, zero, suc, ◌+◌, ◌<◌, ◌≤◌, List, [], ◌∷◌, ◌++◌, length, take, drop, refl, sym, ◌∙◌, ap, subst, arith, append_assoc, append-nil, length-append, length-take, length-drop, Result, Ok, Err}
+use Rattle.std.proofs.Common.{◌≡◌, ◌≢◌, ◌⊎◌, inl, inr, ℕ, zero, suc, ◌+◌, ◌<◌, ◌≤◌, List, [], ◌∷◌, ◌++◌, length, take, drop, refl, sym, ◌∙◌, ap, subst, arith, append_assoc, append-nil, length-append, length-take, length-drop}
 use Rattle.std.proofs.lemmas.Bool.{cases_lt}
 use Rattle.dsd_station.specs.declared.call.Call.{Call}
 use Rattle.dsd_station.specs.Failures.{failed_in, has_failed}
@@ -95,10 +95,6 @@ so_far_on image at room count old new s r = let more = taken_on image at room co
 pub ended : (image : List ℕ) (at room : ℕ) (old new : List ℕ) → at ≤ length image → 0 < room → ReadsOn image at room 0 old new → at ≡ length image
 ended image at room old new inside some r = elim (cases_lt at (length image)) [ inl less ↦ absurd (omega (arith, r.some less some)) | inr past ↦ omega (arith, past, inside) ]
 
-pub ok_is_no_err : (T E : Type 0) (x : T) (e : E) → (let r : Result T E = Ok x in r) ≡ Err e → ⊥
-ok_is_no_err T E x e is = cc
-
--- a call that went well looked, whatever is said of a failure
-pub looks_ok : (T E : Type 0) (x : T) (e : E) (G : Type 0) (a b c : Told) → Looks ⊥ a b → Looks ((let r : Result T E = Ok x in r) ≡ Err e) b c → Looks G a c
-looks_ok T E x e G a b c p q =
-    looks_then ⊥ G a b c p (λ f. f) (looks_as ((let r : Result T E = Ok x in r) ≡ Err e) G b c (λ is. absurd (ok_is_no_err T E x e is)) q)
+-- two calls that went well
+pub looks_none_failed : (G : Type 0) (a b c : Told) → Looks ⊥ a b → Looks ⊥ b c → Looks G a c
+looks_none_failed G a b c p q = looks_then ⊥ G a b c p (λ f. f) (looks_as ⊥ G b c (λ f. absurd f) q)

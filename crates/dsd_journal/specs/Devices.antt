@@ -1,11 +1,13 @@
 -- What the calls of a journal do to what its station tells.
-use Rattle.std.specs.Prelude.{ℕ, ◌+◌, ◌<◌, ◌≤◌, ◌≡◌, ◌≢◌, ◌⊎◌, Bool, false, List, [], ◌∷◌, ◌++◌, length, Result, Err, OnOk}
+use Rattle.std.specs.Prelude.{ℕ, ◌+◌, ◌<◌, ◌≤◌, ◌≡◌, ◌≢◌, ◌⊎◌, Bool, false, List, [], ◌∷◌, ◌++◌, length, Result, Ok, Err, OnOk}
 use Rattle.dsd_station.specs.declared.call.Call.{Call}
 use Rattle.dsd_station.specs.Disk.{Torn}
 use Rattle.dsd_station.specs.Failures.{failed_in}
 use Rattle.dsd_station.specs.Puts.{Goes}
 use Rattle.dsd_station.specs.Told.{Told, EachStop, IsSynced, LeavesAt}
 use Rattle.dsd_journal.specs.declared.append.AppendFault.{AppendFault}
+use Rattle.dsd_journal.specs.declared.opening.OpenFault.{OpenFault}
+use Rattle.dsd_journal.specs.declared.opening.OpenFault.TheVariants.{Station as NoStation}
 use Rattle.dsd_journal.specs.declared.formatting.FormatFault.{FormatFault}
 use Rattle.dsd_journal.specs.declared.formatting.FormatFault.TheVariants.{NotEmpty, Station}
 use Rattle.dsd_journal.specs.declared.entry.Entry.{Entry}
@@ -36,6 +38,11 @@ pub record Untouched (old new : Told) : Type 0 where
   pub journal : new.journal ≡ old.journal
   pub now : new.now ≡ old.now
   pub stops : EachStop old new (LeavesAt old.now)
+
+-- the call answered that the station failed
+abbrev pub IsStationFault : {T : Type 0} → Result T OpenFault → Type 0
+IsStationFault (Ok value) = ⊥
+IsStationFault (Err fault) = fault ≡ NoStation
 
 -- A call that only looks at the journal changes nothing but the clock and the record. No call of the record has failed, unless this one has.
 pub record Looks (failed : Type 0) (old new : Told) : Type 0 where

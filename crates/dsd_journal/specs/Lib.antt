@@ -8,3 +8,4 @@ pub mod Journals
 pub mod Devices
 pub mod Steps
 pub mod Pieces
+pub mod JournalInside

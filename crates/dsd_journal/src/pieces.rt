@@ -2,7 +2,7 @@
 
 ghost use Rattle.std.specs.Prelude.{◌≡◌, ◌≢◌, ◌+◌, ◌<◌, ◌≤◌, ◌^◌, ℕ, Err, [], drop, length, IfOk, vec_len};
 ghost use Rattle.dsd_station.specs.Causes.{Rose};
-ghost use Rattle.dsd_journal.specs.Devices.{Looks};
+ghost use Rattle.dsd_journal.specs.Devices.{IsStationFault, Looks};
 ghost use Rattle.dsd_journal.specs.Pieces.{IsSoFar, ReadsOn};
 
 use crate::limits::HEADER_BYTES;
@@ -26,7 +26,7 @@ pub(crate) fn read_more<T: Station>(
     ensures len { IfOk result (λ count. vec_len bytes.new ≡ vec_len bytes.old + count) }
     ensures most { IfOk result (λ count. count ≤ length piece.old) }
     ensures bytes { T.tells → IfOk result (λ count. ReadsOn (T.told station.old).journal at (length piece.old) count bytes.old.items bytes.new.items) }
-    ensures told { T.tells → Looks (result ≡ Err OpenFault.Station) (T.told station.old) (T.told station.new) }
+    ensures told { T.tells → Looks (IsStationFault result) (T.told station.old) (T.told station.new) }
 {
     let Ok(count) = station.read_at(at, piece) else {
         return Err(OpenFault::Station);
@@ -52,7 +52,7 @@ pub(crate) fn read_front<T: Station>(
     ensures len { IfOk result (λ at. vec_len bytes.new ≡ at) }
     ensures bytes { T.tells → IfOk result (λ at. IsSoFar (T.told station.old).journal at bytes.new.items) }
     ensures end { T.tells → IfOk result (λ at. at < 27 → at ≡ length (T.told station.old).journal) }
-    ensures told { T.tells → Looks (result ≡ Err OpenFault.Station) (T.told station.old) (T.told station.new) }
+    ensures told { T.tells → Looks (IsStationFault result) (T.told station.old) (T.told station.new) }
 {
     let mut at = 0;
     while at < HEADER_BYTES as u64 {

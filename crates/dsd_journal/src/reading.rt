@@ -2,7 +2,7 @@
 
 ghost use Rattle.std.specs.Prelude.{◌≡◌, ◌≢◌, ◌+◌, ◌<◌, ◌≤◌, ℕ, Err, false, true, [], length, IfErr, IfOk, OnOk, vec_len};
 ghost use Rattle.dsd_station.specs.Causes.{Rose};
-ghost use Rattle.dsd_journal.specs.Devices.{Looks};
+ghost use Rattle.dsd_journal.specs.Devices.{IsStationFault, Looks};
 ghost use Rattle.dsd_journal.specs.FirstBad.{IsRefused};
 ghost use Rattle.dsd_journal.specs.JournalImage.{gate_place, Holds, Leads};
 ghost use Rattle.dsd_journal.specs.Pieces.{IsCounted, IsRead};
@@ -89,8 +89,8 @@ fn read_entries<T: Station>(
     ensures later { T.faults station.old ≤ T.faults station.new }
     ensures cause { result ≡ Err OpenFault.Station → Rose (T.faults station.old) (T.faults station.new) }
     ensures held { T.tells → OnOk result (Holds reading.new.header reading.new.entries.list (T.told station.old).journal) }
-    ensures refused { T.tells → (place : ℕ) → result ≡ Err (OpenFault.NotAJournal place) → IsRefused (T.told station.old).journal place }
-    ensures told { T.tells → Looks (result ≡ Err OpenFault.Station) (T.told station.old) (T.told station.new) }
+    ensures refused { T.tells → IfErr result (λ fault. (place : ℕ) → fault ≡ OpenFault.NotAJournal place → IsRefused (T.told station.old).journal place) }
+    ensures told { T.tells → Looks (IsStationFault result) (T.told station.old) (T.told station.new) }
 {
     loop {
         match take_front(alloc, &mut reading.entries, &mut reading.bytes) {
@@ -106,31 +106,50 @@ fn read_entries<T: Station>(
     }
 }
 
+// Reads the front of the station's image: its header, and what came with it.
+fn read_head<T: Station>(
+    alloc: Global,
+    station: &mut T,
+    piece: &mut [u8],
+) -> Result<Reading, OpenFault>
+    requires piece { length piece.old ≡ PIECE_BYTES }
+    ensures later { T.faults station.old ≤ T.faults station.new }
+    ensures cause { result ≡ Err OpenFault.Station → Rose (T.faults station.old) (T.faults station.new) }
+    ensures piece { length piece.new ≡ PIECE_BYTES }
+    ensures counted { IfOk result IsCounted }
+    ensures read { T.tells → IfOk result (λ reading. IsRead (T.told station.old).journal reading) }
+    ensures refused { T.tells → IfErr result (λ fault. (place : ℕ) → fault ≡ OpenFault.NotAJournal place → IsRefused (T.told station.old).journal place) }
+    ensures told { T.tells → Looks (IsStationFault result) (T.told station.old) (T.told station.new) }
+{
+    let mut bytes = Vec::new(alloc);
+    match read_front(station, &mut bytes, piece) {
+        Err(fault) => Err(fault),
+        Ok(at) => match begin(alloc, bytes, at) {
+            Err(place) => Err(OpenFault::NotAJournal(place as u64)),
+            Ok(reading) => Ok(reading),
+        },
+    }
+}
+
 // Reads the journal that the station's image holds: its header and its entries.
 pub(crate) fn read_journal<T: Station>(
     alloc: Global,
     station: &mut T,
-) -> Result<(Header, Entries), OpenFault>
+    piece: &mut [u8],
+) -> Result<Reading, OpenFault>
+    requires piece { length piece.old ≡ PIECE_BYTES }
     ensures later { T.faults station.old ≤ T.faults station.new }
     ensures cause { result ≡ Err OpenFault.Station → Rose (T.faults station.old) (T.faults station.new) }
-    ensures held { T.tells → IfOk result (λ read. Holds read.0 read.1.list (T.told station.old).journal) }
-    ensures refused { T.tells → (place : ℕ) → result ≡ Err (OpenFault.NotAJournal place) → IsRefused (T.told station.old).journal place }
-    ensures told { T.tells → Looks (result ≡ Err OpenFault.Station) (T.told station.old) (T.told station.new) }
+    ensures held { T.tells → IfOk result (λ reading. Holds reading.header reading.entries.list (T.told station.old).journal) }
+    ensures refused { T.tells → IfErr result (λ fault. (place : ℕ) → fault ≡ OpenFault.NotAJournal place → IsRefused (T.told station.old).journal place) }
+    ensures told { T.tells → Looks (IsStationFault result) (T.told station.old) (T.told station.new) }
 {
-    let Ok(mut piece) = vec![in alloc; 0u8; PIECE_BYTES] else {
-        return Err(OpenFault::Memory);
-    };
-    let mut bytes = Vec::new(alloc);
-    let at = match read_front(station, &mut bytes, &mut piece) {
+    let mut reading = match read_head(alloc, station, piece) {
         Err(fault) => return Err(fault),
-        Ok(at) => at,
-    };
-    let mut reading = match begin(alloc, bytes, at) {
-        Err(place) => return Err(OpenFault::NotAJournal(place as u64)),
         Ok(reading) => reading,
     };
-    match read_entries(alloc, station, &mut reading, &mut piece) {
+    match read_entries(alloc, station, &mut reading, piece) {
         Err(fault) => Err(fault),
-        Ok(()) => Ok((reading.header, reading.entries)),
+        Ok(()) => Ok(reading),
     }
 }

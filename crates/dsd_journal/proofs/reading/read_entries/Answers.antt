@@ -9,7 +9,7 @@ use Rattle.dsd_journal.specs.Reading.{Takes}
 use Rattle.dsd_journal.proofs.Refusing.{leads_more}
 use Rattle.dsd_journal.specs.Pieces.{ReadsOn}
 use Rattle.dsd_journal.proofs.Ends.{read_bad, read_shut, read_ended}
-use Rattle.dsd_journal.proofs.Looking.{looks_then, looks_as, looks_ok, taken_on, ended}
+use Rattle.dsd_journal.proofs.Looking.{looks_then, looks_none_failed, taken_on, ended}
 use Rattle.dsd_journal.proofs.Takes.{leads_takes, low_place, takes_counted}
 use Rattle.dsd_journal.proofs.reading.read_entries.Goals as goal
 
@@ -18,7 +18,7 @@ returns-in-Err-clause-refused g c = λ tells place is.
     let was = c.loop-fault.invariant.read tells in
     read_bad c.loop-fault.reading.header c.loop-fault.reading.entries.list c.loop-fault.reading.bytes.items (g.T.Station.told c.args.station.now).journal c.loop-fault.reading.at was.leads place (c.in-Err.ensures.bad place (failed c.in-Err.fault place is))
   where
-    failed : (fault : OpenFault) (place : ℕ) → (let r : Result (Unit {0}) OpenFault = Err fault in r) ≡ Err (NotAJournal place) → (let r : Result Bool OpenFault = Err fault in r) ≡ Err (NotAJournal place)
+    failed : (fault : OpenFault) (place : ℕ) → fault ≡ NotAJournal place → (let r : Result Bool OpenFault = Err fault in r) ≡ Err (NotAJournal place)
     failed fault place is = cc
 
 pub returns-in-Ok-true-clause-held : goal.returns-in-Ok-true-clause-held
@@ -32,10 +32,7 @@ returns-in-Ok-true-clause-held g c = λ tells.
 pub returns-in-Err-read_more-clause-told : goal.returns-in-Err-read_more-clause-told
 returns-in-Err-read_more-clause-told g c = λ tells.
     looks_then ⊥ _ (g.T.Station.told c.args.station.now) (g.T.Station.told c.loop-fault.station) (g.T.Station.told c.read_more.new.station) (c.loop-fault.invariant.told tells) (λ f. f)
-    (looks_as _ _ (g.T.Station.told c.loop-fault.station) (g.T.Station.told c.read_more.new.station) (failed c.in-Err-read_more.fault) (c.in-Err-read_more.ensures.told tells))
-  where
-    failed : (fault : OpenFault) → (let r : Result ℕ OpenFault = Err fault in r) ≡ Err Station → (let r : Result (Unit {0}) OpenFault = Err fault in r) ≡ Err Station
-    failed fault is = cc
+    (c.in-Err-read_more.ensures.told tells)
 
 pub returns-in-Ok-eq0-clause-refused : goal.returns-in-Ok-eq0-clause-refused
 returns-in-Ok-eq0-clause-refused g c = λ tells place is.
@@ -51,12 +48,12 @@ returns-in-Ok-eq0-clause-refused g c = λ tells place is.
     let same : at ≡ place = placed at place is in
     subst (IsRefused image) same (read_ended c.loop-fault.reading.header c.take_front.new.entries.list c.take_front.new.bytes.items image at leads c.in-Ok-false.ensures.near end (c.in-Ok-false.ensures.waiting c.in-Ok-false.field-0-test))
   where
-    placed : (at place : ℕ) → (let r : Result (Unit {0}) OpenFault = Err (NotAJournal at) in r) ≡ Err (NotAJournal place) → at ≡ place
+    placed : (at place : ℕ) → NotAJournal at ≡ NotAJournal place → at ≡ place
     placed at place is = cc
 
 pub returns-in-Ok-eq0-clause-told : goal.returns-in-Ok-eq0-clause-told
 returns-in-Ok-eq0-clause-told g c = λ tells.
-    looks_ok ℕ OpenFault c.in-Ok-eq0.field-0 Station _ (g.T.Station.told c.args.station.now) (g.T.Station.told c.loop-fault.station) (g.T.Station.told c.read_more.new.station) (c.loop-fault.invariant.told tells) (c.in-Ok-eq0.ensures.told tells)
+    looks_none_failed _ (g.T.Station.told c.args.station.now) (g.T.Station.told c.loop-fault.station) (g.T.Station.told c.read_more.new.station) (c.loop-fault.invariant.told tells) (c.in-Ok-eq0.ensures.told tells)
 
 pub overflow_add-reading : goal.overflow_add-reading
 overflow_add-reading g c =
@@ -90,7 +87,7 @@ loop-fault-preserved g c =
       later = omega (arith, was.later, c.in-Ok.ensures.later);
       read = λ tells. (let on = read_on header es fs x y c.read_more.new.bytes.items image at (length c.loop-fault.piece) c.in-Ok.count c.in-Ok-false.ensures.taken (was.read tells).leads (was.read tells).inside
           (subst (λ j. ReadsOn j at (length c.loop-fault.piece) c.in-Ok.count y c.read_more.new.bytes.items) (was.told tells).untouched.journal (c.in-Ok.ensures.bytes tells)) in record { leads = on.0; inside = on.1 });
-      told = λ tells. looks_ok ℕ OpenFault c.in-Ok.count Station ⊥ (g.T.Station.told c.args.station.now) (g.T.Station.told c.loop-fault.station) (g.T.Station.told c.read_more.new.station) (was.told tells) (c.in-Ok.ensures.told tells);
+      told = λ tells. looks_then ⊥ ⊥ (g.T.Station.told c.args.station.now) (g.T.Station.told c.loop-fault.station) (g.T.Station.told c.read_more.new.station) (was.told tells) (λ f. f) (c.in-Ok.ensures.told tells);
     }
   where
     read_on : (header : Header) (es fs : List Entry) (x y z image : List ℕ) (at room count : ℕ) → Takes es fs x y → Leads header es x (take at image) → at ≤ length image → ReadsOn image at room count y z
