@@ -9,3 +9,6 @@ mod Places
 mod Takes
 mod Looking
 mod Ends
+mod Synced
+mod Gating
+mod Appending

@@ -2,6 +2,7 @@
 #![tactic(auto)]
 
 mod append;
+mod batch;
 mod entries;
 mod entry;
 mod formatting;
@@ -13,6 +14,7 @@ mod limits;
 mod opening;
 mod pieces;
 mod reading;
+mod steps;
 mod taking;
 
 pub use append::AppendFault;
