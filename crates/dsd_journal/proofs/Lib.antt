@@ -12,3 +12,4 @@ mod Ends
 mod Synced
 mod Gating
 mod Appending
+mod Appended

@@ -19,7 +19,7 @@ mod taking;
 
 pub use append::AppendFault;
 pub use entry::{Entry, EntryKind};
-pub use formatting::FormatFault;
+pub use formatting::{FormatFault, format};
 pub use header::Header;
 pub use journal::Journal;
 pub use laws::{an_image_holds_one_list, an_image_is_held_or_refused};
