@@ -1,9 +1,8 @@
 -- From the device calls of an append to the entries of its journal.
-use Rattle.std.proofs.Common.{◌≡◌, ℕ, ◌+◌, ◌<◌, ◌≤◌, List, [], ◌∷◌, ◌++◌, length, sym, ◌∙◌, ap, subst, arith, Result, Ok, Err}
+use Rattle.std.proofs.Common.{◌≡◌, ℕ, ◌+◌, ◌<◌, List, [], ◌∷◌, ◌++◌, length, sym, ◌∙◌, ap, subst, arith, Ok, Err}
 use Rattle.dsd_station.specs.declared.failed.Failed.{Failed}
 use Rattle.dsd_station.specs.Stops.{weaken}
 use Rattle.dsd_station.specs.Told.{Told, EachStop}
-use Rattle.dsd_journal.specs.declared.append.AppendFault.{AppendFault}
 use Rattle.dsd_journal.specs.declared.append.AppendFault.TheVariants.{Station}
 use Rattle.dsd_journal.specs.declared.entry.Entry.{Entry}
 use Rattle.dsd_journal.specs.declared.limits.TheConstants.{JOURNAL_BYTES}

@@ -1,7 +1,7 @@
 -- What the steps of an append of entries do to an image.
-use Rattle.std.proofs.Common.{◌≡◌, ◌≢◌, ◌⊎◌, inl, inr, ℕ, suc, ◌+◌, ◌<◌, ◌≤◌, min, List, [], ◌∷◌, ◌++◌, length, get_or, take, drop, refl, sym, ◌∙◌, ap, subst, arith, append_assoc, length-append, take-append-drop}
+use Rattle.std.proofs.Common.{◌≡◌, inl, inr, ℕ, ◌+◌, ◌<◌, min, List, [], ◌∷◌, ◌++◌, length, get_or, take, drop, sym, ◌∙◌, ap, subst, arith, append_assoc, length-append, take-append-drop}
 use Rattle.std.proofs.lemmas.Bool.{cases_eq}
-use Rattle.std.proofs.lemmas.List.{take_at, drop_at, drop-drop, drop_more, append-nil}
+use Rattle.std.proofs.lemmas.List.{take_at, drop_at, drop-drop, drop_more}
 use Rattle.dsd_station.specs.Disk.{overwritten, Torn}
 use Rattle.dsd_journal.specs.declared.limits.TheConstants.{JOURNAL_BYTES}
 use Rattle.dsd_journal.specs.declared.entry.Entry.{Entry}
@@ -29,14 +29,14 @@ module _ (base : List ℕ) (p : ℕ) (place : length base ≡ p) where
   torn_behind g n rest image torn =
       let most : p + 1 ≡ min (p + 1) (length (base ++ g ∷ rest)) = omega (arith, reach g rest) in
       let front : take (p + 1) image ≡ base ++ g ∷ [] =
-          ap (λ (k : ℕ). take k image) most ∙ torn.before ∙ ap (λ (l : List ℕ). take (p + 1) l) (regroup g rest) ∙ take_at (base ++ g ∷ []) rest (p + 1) (long g) in
+      ap (λ (k : ℕ). take k image) most ∙ torn.before ∙ ap (λ (l : List ℕ). take (p + 1) l) (regroup g rest) ∙ take_at (base ++ g ∷ []) rest (p + 1) (long g) in
       sym (take-append-drop (p + 1) image) ∙ ap (λ (l : List ℕ). l ++ drop (p + 1) image) front ∙ sym (regroup g (drop (p + 1) image))
 
   written_behind : (g : ℕ) (rest bytes : List ℕ) → overwritten (base ++ g ∷ rest) (p + 1) bytes ≡ base ++ g ∷ (bytes ++ drop (length bytes) rest)
   written_behind g rest bytes =
       let front : take (p + 1) (base ++ g ∷ rest) ≡ base ++ g ∷ [] = ap (λ (l : List ℕ). take (p + 1) l) (regroup g rest) ∙ take_at (base ++ g ∷ []) rest (p + 1) (long g) in
       let back : drop (p + 1 + length bytes) (base ++ g ∷ rest) ≡ drop (length bytes) rest =
-          sym (drop-drop (length bytes) (p + 1) (base ++ g ∷ rest)) ∙ ap (λ (l : List ℕ). drop (length bytes) l) (ap (λ (l : List ℕ). drop (p + 1) l) (regroup g rest) ∙ drop_at (base ++ g ∷ []) rest (p + 1) (long g)) in
+      sym (drop-drop (length bytes) (p + 1) (base ++ g ∷ rest)) ∙ ap (λ (l : List ℕ). drop (length bytes) l) (ap (λ (l : List ℕ). drop (p + 1) l) (regroup g rest) ∙ drop_at (base ++ g ∷ []) rest (p + 1) (long g)) in
       ap (λ (l : List ℕ). l ++ bytes ++ drop (p + 1 + length bytes) (base ++ g ∷ rest)) front ∙ ap (λ (l : List ℕ). (base ++ g ∷ []) ++ bytes ++ l) back
       ∙ append_assoc (base ++ g ∷ []) bytes (drop (length bytes) rest) ∙ sym (regroup g (bytes ++ drop (length bytes) rest))
 
@@ -84,7 +84,7 @@ module _ (header : Header) (es : List Entry) (first : Entry) (more : List Entry)
     each = each_append es (first ∷ more) holds.journal.leads.each each;
     split = is ∙ append_assoc (header_bytes header) (spelled es) (open_gate ∷ (batch ++ rest)) ∙ ap (λ (l : List ℕ). header_bytes header ++ l)
         (ap (λ (l : List ℕ). spelled es ++ (open_gate ∷ l)) (append_assoc (body first) (spelled more ++ 0 ∷ []) rest ∙ ap (λ (l : List ℕ). body first ++ l) (append_assoc (spelled more) (0 ∷ []) rest)
-          ∙ sym (append_assoc (body first) (spelled more) (0 ∷ rest)))
+        ∙ sym (append_assoc (body first) (spelled more) (0 ∷ rest)))
         ∙ sym (append_assoc (spelled es) (open_gate ∷ (body first ++ spelled more)) (0 ∷ rest)) ∙ ap (λ (l : List ℕ). l ++ 0 ∷ rest) (sym (spelled_append es (first ∷ more))));
   })
     where

@@ -1,10 +1,10 @@
 -- Bytes put behind a closed gate, and the gate opened.
-use Rattle.std.proofs.Common.{◌≡◌, ◌⊎◌, inl, inr, ℕ, ◌+◌, ◌≤◌, List, [], ◌∷◌, ◌++◌, length, sym, ◌∙◌, ap, subst, arith, Result, Ok, Err, OnOk}
+use Rattle.std.proofs.Common.{◌≡◌, inl, inr, ℕ, ◌+◌, List, [], ◌∷◌, ◌∙◌, ap, subst, arith, Result, Ok, Err, OnOk}
 use Rattle.dsd_station.specs.declared.failed.Failed.{Failed}
 use Rattle.dsd_station.specs.Disk.{overwritten, Torn}
 use Rattle.dsd_station.specs.Puts.{Puts}
 use Rattle.dsd_station.specs.Stops.{then, weaken}
-use Rattle.dsd_station.specs.Told.{Told, EachStop, IsSynced}
+use Rattle.dsd_station.specs.Told.{Told, IsSynced}
 use Rattle.dsd_journal.specs.Devices.{KeepsTalk}
 use Rattle.dsd_journal.specs.JournalImage.{open_gate}
 use Rattle.dsd_journal.specs.Steps.{TornInTwo, Opened}

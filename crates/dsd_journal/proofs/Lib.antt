@@ -13,3 +13,4 @@ mod Synced
 mod Gating
 mod Appending
 mod Appended
+mod Formatted

@@ -1,13 +1,13 @@
 -- A sync, and calls that only look behind it.
-use Rattle.std.proofs.Common.{◌≡◌, ◌⊎◌, inl, inr, ℕ, ◌+◌, ◌≤◌, List, [], ◌∷◌, ◌++◌, refl, sym, ◌∙◌, ap, subst, arith, append-nil, Result, Ok, Err, IfErr}
+use Rattle.std.proofs.Common.{◌≡◌, ◌⊎◌, inl, inr, ℕ, List, [], ◌∷◌, sym, ◌∙◌, ap, subst, arith, append-nil, Result, Ok, Err, IfErr}
 use Rattle.dsd_station.specs.declared.failed.Failed.{Failed}
 use Rattle.dsd_station.specs.declared.call.Call.{Call}
 use Rattle.dsd_station.specs.declared.call.Call.TheVariants.{Sync}
 use Rattle.dsd_station.specs.declared.call.Outcome.{Outcome}
-use Rattle.dsd_station.specs.Effects.{Syncs, Passes, Stays, AddsAs, synced}
+use Rattle.dsd_station.specs.Effects.{Syncs, AddsAs, synced}
 use Rattle.dsd_station.specs.Puts.{Goes}
 use Rattle.dsd_station.specs.Stops.{then, weaken, syncs_stops}
-use Rattle.dsd_station.specs.Told.{Told, Moment, Allows, LeavesAt, EachStop}
+use Rattle.dsd_station.specs.Told.{Told, Moment, Allows, LeavesAt}
 use Rattle.dsd_journal.specs.Devices.{KeepsTalk, Looks, Opens}
 use Rattle.dsd_journal.proofs.Looking.{keeps_then}
 

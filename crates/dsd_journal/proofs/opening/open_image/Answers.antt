@@ -1,4 +1,4 @@
-use Rattle.std.proofs.Common.{◌≡◌, List, sym, subst}
+use Rattle.std.proofs.Common.{List, sym, subst}
 use Rattle.dsd_journal.specs.declared.entry.Entry.{Entry}
 use Rattle.dsd_journal.specs.declared.header.Header.{Header}
 use Rattle.dsd_journal.specs.JournalImage.{Holds}

@@ -1,5 +1,4 @@
-use Rattle.std.proofs.Common.{◌≡◌, ℕ, List, refl, subst, Result, Ok}
-use Rattle.dsd_station.specs.Effects.{Syncs}
+use Rattle.std.proofs.Common.{ℕ, List, refl, subst}
 use Rattle.dsd_journal.specs.declared.opening.OpenFault.TheVariants.{NotAJournal}
 use Rattle.dsd_journal.specs.FirstBad.{IsRefused}
 use Rattle.dsd_journal.proofs.Synced.{opens, if_err}

@@ -1,4 +1,3 @@
-use Rattle.dsd_journal.proofs.Appending.{holds_more}
 use Rattle.dsd_journal.proofs.Gating.{opened_one, opened_two}
 use Rattle.dsd_journal.proofs.steps.open_gate.Goals as goal
 

@@ -1,4 +1,4 @@
-use Rattle.std.proofs.Common.{◌≡◌, ◌≤◌, ◌<◌, ◌+◌, ℕ, List, [], ◌∷◌, ◌++◌, length, sym, subst, ap, ◌∙◌, arith, length-append}
+use Rattle.std.proofs.Common.{◌≡◌, ◌<◌, ◌+◌, [], ◌∷◌, length, ap, ◌∙◌, arith, length-append}
 use Rattle.dsd_journal.specs.declared.entry.Entry.{Entry}
 use Rattle.dsd_journal.specs.declared.limits.TheConstants.{JOURNAL_BYTES}
 use Rattle.dsd_journal.specs.JournalImage.{body, gate_place}
