@@ -34,8 +34,8 @@ pub failed_in_fewer : (calls : List Call) → failed_in calls ≤ length calls
 failed_in_fewer [] = omega arith
 failed_in_fewer (c ∷ calls) = let fewer = failed_in_fewer calls in let one = one_at_most (has_failed c) in omega (arith, fewer, one)
 
--- Of a record in memory the count of faults never stands at its last value: it is how many calls failed, and one more at least where
--- one failed for want of memory.
+-- A record in memory is too short for the count of faults to stand at its last value: the count is how many calls of it failed, or
+-- more where one failed for want of memory.
 pub faults_exact : (log : Log) → IsPlayed log → length log.calls < 2 ^ 63 → log.starved ≡ false → log.faults ≡ failed_in log.calls
 faults_exact log was short fed = let fewer = failed_in_fewer log.calls in let is = was.faults fed in omega (arith, fewer, short, is)
 

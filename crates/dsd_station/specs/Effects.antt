@@ -88,8 +88,8 @@ pub record Attaches (its_journal its_port : List ℕ) (result : Result (Unit {0}
   pub moves : OnOk result (Passes old new [] old.now)
   pub calls : Adds (Attach its_journal its_port result) old new
 
--- A call that asks for the journal's length or for bytes of it changes nothing, also where it fails. One that
--- went well moved the clock.
+-- A call that asks for the journal's length or for bytes of it changes nothing, also where it fails. One that went well moved the
+-- clock.
 pub record Reads (call : Call) (old new : Told) : Type 0 where
   pub same : Same old new
   pub time : Passes old new [] old.now ⊎ Stays old new
@@ -136,7 +136,7 @@ IsPiece (Bytes n) = (0 < n) × (n ≤ 64)
 IsPiece Quiet = Unit {0}
 IsPiece Unplugged = Unit {0}
 
--- A `listen` adds its answer to the list and moves the clock, and one that fails changes nothing.
+-- A `listen` adds its answer to the list, and one that fails changes nothing. One that went well moved the clock.
 pub record Listens (into : List ℕ) (result : Result Heard Failed) (old new : Told) : Type 0 where
   pub ok : IfOk result (λ heard. Same (with_heard old (old.heard ++ heard_in into heard ∷ [])) new)
   pub err : OnErr result (Same old new)

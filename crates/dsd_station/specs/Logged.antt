@@ -1,5 +1,5 @@
 -- What a station in memory is seen as.
-use Rattle.std.specs.Prelude.{ℕ, ◌+◌, ◌-◌, ◌^◌, ◌≤◌, ◌≡◌, ◌⊎◌, min, List, [], ◌∷◌, ◌++◌, length, take, drop, Bool, true, false, if◌then◌else◌, Result, Ok, Err}
+use Rattle.std.specs.Prelude.{ℕ, ◌-◌, ◌^◌, ◌≤◌, ◌≡◌, ◌⊎◌, min, List, [], ◌∷◌, ◌++◌, length, take, drop, Bool, true, false, if◌then◌else◌, Result, Err}
 use Rattle.dsd_station.specs.declared.failed.Failed.{Failed}
 use Rattle.dsd_station.specs.declared.call.Call.{Call}
 use Rattle.dsd_station.specs.Causes.{Rose}
@@ -42,8 +42,8 @@ abbrev pub Plays : {T : Type 0} → Call → Result T Failed → Result T Failed
 Plays call answer result old new = ((new ≡ played old call) × (result ≡ answer)) ⊎ ((new ≡ starving old) × (result ≡ Err (record {})))
 
 -- What holds of each station in memory. Each answer since the plan last changed is the one that the plan and the record before it
--- give. The faults are those of the record, and where one was for want of memory there is at least one more. Each image that a stop left was one that it may leave.
--- What was heard and what went out are the record's.
+-- give. The faults are those of the record, and where one was for want of memory there is at least one more. Each image that a stop
+-- left was one that it may leave. What was heard and what went out are the record's.
 pub record IsPlayed (log : Log) : Type 0 where
   pub since : log.plan.since ≤ length log.calls
   pub answers : EachAnswered log.plan (take log.plan.since log.calls) (drop log.plan.since log.calls)
