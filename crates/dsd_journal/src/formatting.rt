@@ -2,6 +2,7 @@
 
 ghost use Rattle.std.specs.Prelude.{◌≤◌, ◌≡◌, [], Err};
 ghost use Rattle.dsd_station.specs.Causes.{HasCause, Rose};
+ghost use Rattle.dsd_station.specs.Told.{ReadMayStay};
 ghost use Rattle.dsd_journal.specs.Devices.{Formats, WritesHeader};
 
 use crate::header::{Header, formatted_bytes};
@@ -33,6 +34,7 @@ pub fn format<T: Station>(
     ensures later { T.faults station.old ≤ T.faults station.new }
     ensures cause { result ≡ Err FormatFault.Station → Rose (T.faults station.old) (T.faults station.new) }
     ensures told { T.tells → Formats (record { role = role; own = own; peer = peer }) result (T.told station.old) (T.told station.new) }
+    ensures stays { T.tells → ReadMayStay (T.told station.new) }
 {
     match station.size() {
         Err(_) => Err(FormatFault::Station),
@@ -48,6 +50,7 @@ pub fn format<T: Station>(
 fn write_header<T: Station>(station: &mut T, header: &Header) -> Result<(), Failed>
     ensures cause { HasCause (T.faults station.old) (T.faults station.new) result }
     ensures told { T.tells → (T.told station.old).journal ≡ [] → WritesHeader header.now result (T.told station.old) (T.told station.new) }
+    ensures stays { T.tells → ReadMayStay (T.told station.new) }
 {
     let bytes = formatted_bytes(header);
     match station.write_at(0, &bytes) {

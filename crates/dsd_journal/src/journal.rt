@@ -2,6 +2,7 @@
 
 ghost use Rattle.std.specs.Prelude.{◌≡◌, ◌⊎◌, ◌≤◌, ◌<◌, ◌+◌, [], ◌∷◌, length, max, take, slice_index_or, Err, IsTrue, Ok, OnErr, OnOk, true};
 ghost use Rattle.dsd_station.specs.Causes.{Rose};
+ghost use Rattle.dsd_station.specs.Told.{ReadMayStay};
 ghost use Rattle.dsd_journal.specs.Devices.{Appends};
 ghost use Rattle.dsd_journal.specs.JournalImage.{gate_place, IsPayloadLength};
 ghost use Rattle.dsd_journal.specs.Journals.{with_entry, with_spare, without_work, Rests};
@@ -166,6 +167,7 @@ impl Journal {
             → ((result ≡ Ok tt) × (self.new ≡ with_entry self.old (record { kind = kind; payload = payload.now })))
             ⊎ ((result ≡ Err AppendFault.Station) × (self.new ≡ without_work self.old) × Rose (T.faults station.old) (T.faults station.new)) }
         ensures told { T.tells → Appends self.old ((record { kind = kind; payload = payload.now }) ∷ []) result self.new (T.told station.old) (T.told station.new) }
+        ensures stays { T.tells → ReadMayStay (T.told station.new) }
     {
         let length = self.entries.gate() + 7 + payload.len() as u64;
         if length > JOURNAL_BYTES {

@@ -2,7 +2,7 @@
 
 ghost use Rattle.std.specs.Prelude.{◌≡◌, ◌≤◌, ◌<◌, ◌^◌, length};
 ghost use Rattle.dsd_station.specs.Causes.{HasCause};
-ghost use Rattle.dsd_station.specs.Told.{IsSynced};
+ghost use Rattle.dsd_station.specs.Told.{IsSynced, ReadMayStay};
 ghost use Rattle.dsd_journal.specs.Steps.{Opened};
 
 use crate::limits::OPEN_GATE;
@@ -16,6 +16,7 @@ pub(crate) fn open_gate<T: Station>(station: &mut T, gate: u64, bytes: &[u8]) ->
     requires synced { T.tells → IsSynced (T.told station.old) }
     ensures cause { HasCause (T.faults station.old) (T.faults station.new) result }
     ensures told { T.tells → Opened gate bytes.now result (T.told station.old) (T.told station.new) }
+    ensures stays { T.tells → ReadMayStay (T.told station.new) }
 {
     match write_through(station, gate + 1, bytes) {
         Ok(()) => write_through(station, gate, &[OPEN_GATE]),
