@@ -25,3 +25,6 @@ pub use journal::Journal;
 pub use laws::{an_image_holds_one_list, an_image_is_held_or_refused};
 pub use limits::JOURNAL_BYTES;
 pub use opening::{OpenFault, open_journal};
+
+#[cfg(test)]
+mod tests;
