@@ -1,7 +1,7 @@
 //! The journal of an end: entries behind gates, which a stop leaves whole.
 #![tactic(auto)]
 
-mod append;
+mod append_fault;
 mod batch;
 mod entries;
 mod entry;
@@ -17,7 +17,7 @@ mod reading;
 mod steps;
 mod taking;
 
-pub use append::AppendFault;
+pub use append_fault::AppendFault;
 pub use entry::{Entry, EntryKind};
 pub use formatting::{FormatFault, format};
 pub use header::Header;

@@ -1,12 +1,9 @@
+use super::stops::THREE;
 use crate::{EntryKind, Journal, OpenFault, open_journal};
 use dsd_station::{MemoryStation, Station};
 use dsd_values::Role;
 use std::alloc::Global;
 use std::test::Fail;
-
-// A handheld's journal with three entries, at 27, 35 and 42, and a closed gate at 51.
-const THREE: [u8; 52] =
-    *b"DEXJ1HHH00000001RR00000001\n\xa5S\0\0\0\x02AB\xa5T\0\0\0\x01x\xa5S\0\0\0\x03CDE\0";
 
 // Where the image with this byte changed is refused, if it is.
 fn refused_at(place: usize, value: u8) -> Option<usize> {

@@ -14,6 +14,10 @@ const FORMATTED: [u8; 28] = [
     0x52, 0x52, 0x30, 0x30, 0x30, 0x30, 0x30, 0x30, 0x30, 0x31, 0x0a, 0x00,
 ];
 
+// The same with three entries, at 27, 35 and 42, and a closed gate at 51.
+pub(super) const THREE: [u8; 52] =
+    *b"DEXJ1HHH00000001RR00000001\n\xa5S\0\0\0\x02AB\xa5T\0\0\0\x01x\xa5S\0\0\0\x03CDE\0";
+
 // At which call of an append a stop comes, its pick, and how many entries are then held.
 const TABLE: [(u64, Pick, usize); 12] = [
     (1, Pick::Keep, 0),
@@ -55,6 +59,33 @@ fn append_one<T: Station>(alloc: Global, station: &mut T, payload: &[u8]) -> Res
     journal.reserve(payload.len())?;
     let answer = journal.append(station, EntryKind::Signed, payload);
     Ok(answer.is_ok() && journal.works())
+}
+
+// Adds three entries to an open journal. Answers whether all of it went well.
+fn append_three<T: Station>(alloc: Global, station: &mut T) -> Result<bool, OpenFault> {
+    let mut journal = open_journal(alloc, station)?;
+    journal.reserve(2)?;
+    let Ok(()) = journal.append(station, EntryKind::Signed, b"AB") else {
+        return Ok(false);
+    };
+    journal.reserve(1)?;
+    let Ok(()) = journal.append(station, EntryKind::Took, b"x") else {
+        return Ok(false);
+    };
+    journal.reserve(3)?;
+    let Ok(()) = journal.append(station, EntryKind::Signed, b"CDE") else {
+        return Ok(false);
+    };
+    Ok(true)
+}
+
+#[test]
+fn three_entries_stand_behind_gates(rt: HostRuntime) -> Result<(), Fail> {
+    let mut station = MemoryStation::new(rt.alloc());
+    let _ = format_handheld(&mut station)?;
+    let went_well = append_three(rt.alloc(), &mut station)?;
+    assert!(rt; went_well && station.image() == THREE.as_slice());
+    Ok(())
 }
 
 fn holds(journal: &Journal, payload: &[u8]) -> bool {
