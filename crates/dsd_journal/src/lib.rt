@@ -1,0 +1,30 @@
+//! The journal of an end: entries behind gates, which a stop leaves whole.
+#![tactic(auto)]
+
+mod append_fault;
+mod batch;
+mod entries;
+mod entry;
+mod formatting;
+mod front;
+mod header;
+mod journal;
+mod laws;
+mod limits;
+mod opening;
+mod pieces;
+mod reading;
+mod steps;
+mod taking;
+
+pub use append_fault::AppendFault;
+pub use entry::{Entry, EntryKind};
+pub use formatting::{FormatFault, format};
+pub use header::Header;
+pub use journal::Journal;
+pub use laws::{an_image_holds_one_list, an_image_is_held_or_refused};
+pub use limits::JOURNAL_BYTES;
+pub use opening::{OpenFault, open_journal};
+
+#[cfg(test)]
+mod tests;
