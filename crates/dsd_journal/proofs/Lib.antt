@@ -1,0 +1,11 @@
+mod Peeling
+mod Apart
+mod Refusing
+mod Titles
+mod Sizes
+mod Fronts
+mod Deciding
+mod Places
+mod Takes
+mod Looking
+mod Ends

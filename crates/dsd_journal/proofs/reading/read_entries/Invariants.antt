@@ -1,0 +1,17 @@
+use Rattle.std.proofs.Common.{◌≡◌, ◌≤◌, ◌+◌, ◌-◌, ℕ, length, vec_len}
+use Rattle.dsd_journal.specs.declared.pieces.TheConstants.{PIECE_BYTES}
+use Rattle.dsd_journal.specs.Devices.{Looks}
+use Rattle.dsd_journal.specs.Pieces.{IsCounted, IsRead}
+use Rattle.dsd_journal.proofs.reading.read_entries.Given as goal
+
+abbrev pub invariant-loop-fault : goal.invariant-loop-fault
+invariant-loop-fault g l = record {
+  counted : IsCounted l.reading;
+  piece : length l.piece ≡ PIECE_BYTES;
+  later : g.T.Station.faults l.fn.station ≤ g.T.Station.faults l.station;
+  read : g.T.Station.tells → IsRead (g.T.Station.told l.fn.station).journal l.reading;
+  told : g.T.Station.tells → Looks ⊥ (g.T.Station.told l.fn.station) (g.T.Station.told l.station);
+}
+
+abbrev pub decreases-loop-fault : goal.decreases-loop-fault
+decreases-loop-fault g l = 67371014 - l.reading.at

@@ -1,0 +1,11 @@
+pub mod Headers
+pub mod JournalImage
+pub mod FirstBad
+pub mod Reading
+pub mod Kept
+pub mod Inside
+pub mod Journals
+pub mod Devices
+pub mod Steps
+pub mod Pieces
+pub mod JournalInside

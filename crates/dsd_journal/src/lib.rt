@@ -1,0 +1,25 @@
+//! The journal of an end: entries behind gates, which a stop leaves whole.
+#![tactic(auto)]
+
+mod append;
+mod entries;
+mod entry;
+mod formatting;
+mod front;
+mod header;
+mod journal;
+mod laws;
+mod limits;
+mod opening;
+mod pieces;
+mod reading;
+mod taking;
+
+pub use append::AppendFault;
+pub use entry::{Entry, EntryKind};
+pub use formatting::FormatFault;
+pub use header::Header;
+pub use journal::Journal;
+pub use laws::{an_image_holds_one_list, an_image_is_held_or_refused};
+pub use limits::JOURNAL_BYTES;
+pub use opening::{OpenFault, open_journal};

@@ -1,0 +1,10 @@
+//! Limits of a journal.
+
+/// The most bytes of a journal: the closed gate behind its entries stands below this place.
+pub const JOURNAL_BYTES: u64 = 67_108_864;
+
+/// How many bytes a header has.
+pub(crate) const HEADER_BYTES: usize = 27;
+
+/// A gate that is open. Any other byte is a closed one.
+pub(crate) const OPEN_GATE: u8 = 0xa5;
