@@ -1,23 +1,24 @@
 -- An image holds one list, and none that is refused as outgrown.
-use Rattle.std.proofs.Common.{◌≡◌, ◌≢◌, ◌⊎◌, inl, inr, ℕ, suc, ◌+◌, ◌<◌, ◌≤◌, List, [], ◌∷◌, ◌++◌, length, take, drop, refl, sym, ◌∙◌, ap, subst, arith, append_assoc}
+use Rattle.std.proofs.Common.{◌≡◌, ◌⊎◌, inl, inr, ℕ, ◌+◌, ◌<◌, ◌≤◌, List, [], ◌∷◌, ◌++◌, length, take, drop, sym, ◌∙◌, ap, subst, arith, append_assoc}
 use Rattle.std.proofs.lemmas.Bool.{cases_lt}
 use Rattle.std.proofs.lemmas.List.{append-nil, take-take, take-append-drop}
 use Rattle.std.specs.Int.{w32, to_be_bytes}
-use Rattle.dsd_journal.specs.declared.limits.TheConstants.{JOURNAL_BYTES}
 use Rattle.dsd_journal.specs.declared.entry.Entry.{Entry}
 use Rattle.dsd_journal.specs.declared.entry.EntryKind.{EntryKind}
 use Rattle.dsd_journal.specs.declared.header.Header.{Header}
-use Rattle.dsd_journal.specs.JournalImage.{open_gate, kind_letter, body, spelled, gate_place, EachFits, IsPayloadLength, Leads, IsJournal, Holds}
+use Rattle.dsd_journal.specs.JournalImage.{open_gate, kind_letter, body, spelled, gate_place, EachFits, IsPayloadLength, IsJournal, Holds}
 use Rattle.dsd_journal.specs.FirstBad.{Begins, StopsAt, Outgrows, IsRefused, Outgrown, Stopped}
 use Rattle.dsd_journal.proofs.Peeling.{Ahead, one_front, shut_ahead, heads, tails, sized_apart, body_split, gate_ahead}
 
 pub one_list : (image : List ℕ) (one other : Header) (entries others : List Entry) → Holds one entries image → Holds other others image → (one ≡ other) × (entries ≡ others)
 one_list image one other entries others p q =
-    let both = one_front one other entries others (p.journal.gate ∷ p.journal.rest) (q.journal.gate ∷ q.journal.rest) image p.journal.leads q.journal.leads in
-    (both.0, elim (both.1) [
-      | inl h ↦ sym ((shut_ahead entries others p.journal.gate p.journal.rest (q.journal.gate ∷ q.journal.rest) p.journal.shut h).0)
-      | inr h ↦ (shut_ahead others entries q.journal.gate q.journal.rest (p.journal.gate ∷ p.journal.rest) q.journal.shut h).0
-    ])
+    let both = one_front one other entries others (p.journal.gate ∷ p.journal.rest) (q.journal.gate ∷ q.journal.rest) image p.journal.leads q.journal.leads in (
+      both.0,
+      elim (both.1) [
+        | inl h ↦ sym ((shut_ahead entries others p.journal.gate p.journal.rest (q.journal.gate ∷ q.journal.rest) p.journal.shut h).0)
+        | inr h ↦ (shut_ahead others entries q.journal.gate q.journal.rest (p.journal.gate ∷ p.journal.rest) q.journal.shut h).0
+      ],
+    )
 
 -- What goes on behind an open gate with a kind and a length: that entry, or nothing.
 pub size_ahead : (es fs : List Entry) (kind : EntryKind) (n : ℕ) (rest y : List ℕ) → IsPayloadLength n → EachFits fs

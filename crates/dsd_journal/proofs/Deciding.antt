@@ -1,15 +1,15 @@
 -- An image holds a journal or is refused.
-use Rattle.std.proofs.Common.{◌≡◌, ◌≢◌, ◌⊎◌, inl, inr, ℕ, zero, suc, ◌+◌, ◌<◌, ◌≤◌, Bool, true, false, List, [], ◌∷◌, ◌++◌, length, get_or, take, drop, refl, sym, ◌∙◌, ap, subst, arith, append_assoc, length-append, length-take, Option, Some, None, Result, Ok, Err}
+use Rattle.std.proofs.Common.{◌≡◌, ◌⊎◌, inl, inr, ℕ, zero, suc, ◌+◌, ◌<◌, ◌≤◌, true, List, [], ◌∷◌, ◌++◌, length, get_or, take, drop, refl, sym, ap, subst, arith, length-append, length-take, Option, Some, None, Result, Ok, Err}
 use Rattle.std.proofs.lemmas.Bool.{cases_eq, cases_lt, cases_Bool}
-use Rattle.std.proofs.lemmas.List.{take-append-drop, get_or-take, append-nil}
+use Rattle.std.proofs.lemmas.List.{take-append-drop, get_or-take}
 use Rattle.dsd_journal.specs.declared.limits.TheConstants.{JOURNAL_BYTES}
 use Rattle.dsd_journal.specs.declared.entry.Entry.{Entry}
 use Rattle.dsd_journal.specs.declared.entry.EntryKind.{EntryKind}
 use Rattle.dsd_journal.specs.declared.header.Header.{Header}
 use Rattle.dsd_journal.specs.JournalImage.{open_gate, body, spelled, gate_place, Leads, Holds}
 use Rattle.dsd_journal.specs.FirstBad.{IsRefused}
-use Rattle.dsd_journal.specs.Reading.{header_fits, FitsBelow, header_of, entry_of, IsWhole}
-use Rattle.dsd_journal.proofs.Peeling.{body_length, spelled_append}
+use Rattle.dsd_journal.specs.Reading.{header_fits, FitsBelow, header_of, entry_of}
+use Rattle.dsd_journal.proofs.Peeling.{body_length}
 use Rattle.dsd_journal.proofs.Refusing.{leads_on, spelled_push, bad_refused, unfinished_refused, shut_holds, end_refused}
 use Rattle.dsd_journal.proofs.Titles.{header_leads, header_refused}
 use Rattle.dsd_journal.proofs.Fronts.{DecidesEntry, entry_decides}

@@ -1,14 +1,13 @@
 -- What stands behind an open gate is whole, or ends too early, or is no entry.
-use Rattle.std.proofs.Common.{◌≡◌, ◌≢◌, ◌⊎◌, inl, inr, ℕ, zero, suc, ◌+◌, ◌-◌, ◌<◌, ◌≤◌, Bool, true, false, ◌==◌, nat_lt, nat_le, if◌then◌else◌, List, [], ◌∷◌, ◌++◌, length, get_or, take, drop, replicate, refl, sym, ◌∙◌, ap, subst, arith, append_assoc, length-append, length-take, length-drop, Option, Some, None, Result, Ok, Err, IfOk, IfErr, MatchOption, Bor}
-use Rattle.std.proofs.lemmas.Bool.{cases_eq, cases_lt, cases_Bool}
+use Rattle.std.proofs.Common.{◌≡◌, ◌≢◌, ◌⊎◌, inl, inr, ℕ, suc, ◌+◌, ◌-◌, ◌<◌, ◌≤◌, true, false, ◌==◌, nat_lt, nat_le, if◌then◌else◌, List, [], ◌∷◌, ◌++◌, length, get_or, take, drop, replicate, refl, sym, ◌∙◌, ap, subst, arith, append_assoc, length-append, length-take, Option, Some, None, Result, Ok, Err, IfOk, IfErr, MatchOption, Bor}
+use Rattle.std.proofs.lemmas.Bool.{cases_Bool}
 use Rattle.std.proofs.lemmas.Bool.Decides.{nat_tests}
-use Rattle.std.proofs.lemmas.List.{append-nil, take_all, take_at, take-append-drop, take-append-le, length-replicate, drop-drop}
+use Rattle.std.proofs.lemmas.List.{take_all, take_at, take-append-drop, take-append-le, length-replicate, drop-drop}
 use Rattle.std.specs.Int.{w32, to_be_bytes}
 use Rattle.dsd_journal.specs.declared.limits.TheConstants.{JOURNAL_BYTES}
-use Rattle.dsd_journal.specs.declared.entry.Entry.{Entry}
 use Rattle.dsd_journal.specs.declared.entry.EntryKind.{EntryKind}
 use Rattle.dsd_journal.specs.declared.entry.EntryKind.TheVariants.{Signed, Took}
-use Rattle.dsd_journal.specs.JournalImage.{kind_letter, body, IsPayloadLength}
+use Rattle.dsd_journal.specs.JournalImage.{kind_letter, IsPayloadLength}
 use Rattle.dsd_journal.specs.Reading.{StartsSize, EndsSize, StartsEntry, IsWhole, IsUnfinished, IsBad, NoEntry, TooFar, size_of, kind_of_letter, with_size, with_kind, entry_of}
 use Rattle.dsd_journal.proofs.Peeling.{heads, tails, body_length}
 use Rattle.dsd_journal.proofs.Sizes.{Decides, size_decides}
@@ -43,7 +42,7 @@ size_starts kind front few s =
     let bytes = to_be_bytes w32 (length s.entry.payload) in
     let e : front ++ s.tail ≡ bytes ++ s.entry.payload = tails (kind_letter kind) (kind_letter s.entry.kind) (front ++ s.tail) (bytes ++ s.entry.payload) s.whole in
     let cut : front ≡ take (length front) bytes =
-        sym (take_at front s.tail (length front) refl) ∙ ap (λ (l : List ℕ). take (length front) l) e ∙ take-append-le (length front) bytes s.entry.payload few in
+    sym (take_at front s.tail (length front) refl) ∙ ap (λ (l : List ℕ). take (length front) l) e ∙ take-append-le (length front) bytes s.entry.payload few in
     record { size = length s.entry.payload; sized = s.sized; rest = drop (length front) bytes; spelled = ap (λ (l : List ℕ). l ++ drop (length front) bytes) cut ∙ take-append-drop (length front) bytes }
 
 -- one place further
@@ -59,15 +58,15 @@ module _ (gate : ℕ) (kind : EntryKind) (rest : List ℕ) where
   size_fails : (k : ℕ) → EndsSize rest k → DecidesEntry gate (kind_letter kind ∷ rest) (with_size gate kind rest (Err k))
   size_fails k e = elim (cases_Bool (length rest == k)) [
     | inl is ↦ (let end : length rest ≡ k = same is in
-      let all : take k rest ≡ rest = take_all k rest (omega (arith, end)) in
-      subst (λ t. DecidesEntry gate (kind_letter kind ∷ rest) (if t then Ok None else Err (gate + 2 + k))) (sym is) (record {
-        ok = record {
-          starts = starts_size kind rest (subst StartsSize all e.before);
-          short = omega (arith, end, e.few, body_length (starts_size kind rest (subst StartsSize all e.before)).entry);
-          near = λ long. absurd (omega (arith, long, end, e.few));
-        };
-        err = tt;
-      }))
+        let all : take k rest ≡ rest = take_all k rest (omega (arith, end)) in
+        subst (λ t. DecidesEntry gate (kind_letter kind ∷ rest) (if t then Ok None else Err (gate + 2 + k))) (sym is) (record {
+          ok = record {
+            starts = starts_size kind rest (subst StartsSize all e.before);
+            short = omega (arith, end, e.few, body_length (starts_size kind rest (subst StartsSize all e.before)).entry);
+            near = λ long. absurd (omega (arith, long, end, e.few));
+          };
+          err = tt;
+        }))
     | inr is ↦ subst (λ t. DecidesEntry gate (kind_letter kind ∷ rest) (if t then Ok None else Err (gate + 2 + k))) (sym is) (record { ok = tt; err = wrong is e.ends })
   ]
     where

@@ -9,3 +9,8 @@ mod Places
 mod Takes
 mod Looking
 mod Ends
+mod Synced
+mod Gating
+mod Appending
+mod Appended
+mod Formatted

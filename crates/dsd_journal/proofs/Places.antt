@@ -1,9 +1,8 @@
 -- The places of entries.
-use Rattle.std.proofs.Common.{◌≡◌, ℕ, zero, suc, ◌+◌, ◌*◌, ◌<◌, ◌≤◌, List, [], ◌∷◌, ◌++◌, length, get_or, take, refl, sym, ◌∙◌, ap, subst, arith, length-append}
-use Rattle.std.proofs.lemmas.List.{append-nil}
+use Rattle.std.proofs.Common.{◌≡◌, ℕ, zero, suc, ◌+◌, ◌*◌, ◌<◌, ◌≤◌, List, [], ◌∷◌, ◌++◌, length, get_or, take, refl, ◌∙◌, ap, arith, length-append}
 use Rattle.dsd_journal.specs.declared.limits.TheConstants.{JOURNAL_BYTES}
 use Rattle.dsd_journal.specs.declared.entry.Entry.{Entry}
-use Rattle.dsd_journal.specs.JournalImage.{open_gate, body, spelled, gate_place, EachFits, IsPayloadLength}
+use Rattle.dsd_journal.specs.JournalImage.{body, spelled, gate_place, EachFits, IsPayloadLength}
 use Rattle.dsd_journal.specs.Kept.{places_from}
 use Rattle.dsd_journal.proofs.Peeling.{body_length}
 

@@ -1,6 +1,6 @@
 -- From where a reading stops to where the image is refused.
-use Rattle.std.proofs.Common.{◌≡◌, ◌≢◌, ◌⊎◌, inl, inr, ℕ, zero, suc, ◌+◌, ◌-◌, ◌<◌, ◌≤◌, List, [], ◌∷◌, ◌++◌, length, get_or, take, drop, replicate, refl, sym, ◌∙◌, ap, subst, arith, append_assoc, length-append, length-take}
-use Rattle.std.proofs.lemmas.List.{append-nil, take_all, take_at, drop_at, take-append-drop, take-append-le, length-replicate}
+use Rattle.std.proofs.Common.{◌≡◌, ◌≢◌, ◌⊎◌, inl, inr, ℕ, ◌+◌, ◌<◌, ◌≤◌, List, [], ◌∷◌, ◌++◌, length, take, drop, replicate, refl, sym, ◌∙◌, ap, subst, arith, append_assoc, length-append, length-take}
+use Rattle.std.proofs.lemmas.List.{append-nil, take_all, take_at, take-append-drop, take-append-le, length-replicate}
 use Rattle.std.specs.Int.{w32, to_be_bytes}
 use Rattle.dsd_journal.specs.declared.limits.TheConstants.{JOURNAL_BYTES}
 use Rattle.dsd_journal.specs.declared.entry.Entry.{Entry}
@@ -8,9 +8,9 @@ use Rattle.dsd_journal.specs.declared.entry.EntryKind.{EntryKind}
 use Rattle.dsd_journal.specs.declared.header.Header.{Header}
 use Rattle.dsd_journal.specs.Headers.{header_bytes}
 use Rattle.dsd_journal.specs.JournalImage.{open_gate, kind_letter, body, spelled, gate_place, EachFits, IsPayloadLength, Leads, IsJournal, Holds}
-use Rattle.dsd_journal.specs.FirstBad.{Begins, StopsAt, Outgrows, IsRefused, Outgrown, Stopped}
-use Rattle.dsd_journal.specs.Reading.{StartsEntry, IsWhole, IsUnfinished, IsBad, NoEntry, TooFar}
-use Rattle.dsd_journal.proofs.Peeling.{Ahead, one_front, shut_ahead, heads, tails, sized_apart, body_apart, body_split, body_length, gate_ahead, spelled_append, header_length}
+use Rattle.dsd_journal.specs.FirstBad.{Begins, Outgrows, IsRefused, Outgrown, Stopped}
+use Rattle.dsd_journal.specs.Reading.{StartsEntry, IsUnfinished, IsBad, NoEntry, TooFar}
+use Rattle.dsd_journal.proofs.Peeling.{one_front, shut_ahead, heads, tails, sized_apart, body_apart, body_split, body_length, gate_ahead, spelled_append, header_length}
 use Rattle.dsd_journal.proofs.Apart.{size_ahead}
 
 -- ---- an entry more
@@ -111,7 +111,7 @@ module _ (header : Header) (es : List Entry) (behind image : List ℕ) (leads : 
       second (m ∷ ms) list e =
           let tail = tails open_gate open_gate (kind_letter o.kind ∷ (to_be_bytes w32 o.size ++ o.rest)) ((body m ++ spelled ms) ++ (open_gate ∷ behind)) e in
           let parts = sized_apart o.kind m.kind o.size (length m.payload) o.rest (m.payload ++ (spelled ms ++ (open_gate ∷ behind))) o.sized (first_of o.entries m ms (subst EachFits list leads.each))
-              (tail ∙ append_assoc (body m) (spelled ms) (open_gate ∷ behind) ∙ body_split m (spelled ms ++ (open_gate ∷ behind))) in
+          (tail ∙ append_assoc (body m) (spelled ms) (open_gate ∷ behind) ∙ body_split m (spelled ms ++ (open_gate ∷ behind))) in
           absurd (omega (arith, parts.1, gate_ahead o.entries m ms, ap gate_place list, near, o.far))
 
   -- the image up to a place behind the gate
@@ -149,7 +149,7 @@ starts_front : (front tail rest : List ℕ) (m : Entry) → IsPayloadLength (len
 starts_front front tail rest m sized few e =
     let n = length front in
     let cut : front ≡ take n (body m) =
-        sym (take_at front tail n refl) ∙ ap (λ (l : List ℕ). take n l) e ∙ take-append-le n (body m) rest (omega (arith, few, body_length m)) in
+    sym (take_at front tail n refl) ∙ ap (λ (l : List ℕ). take n l) e ∙ take-append-le n (body m) rest (omega (arith, few, body_length m)) in
     record { entry = m; sized = sized; tail = drop n (body m); whole = ap (λ (l : List ℕ). l ++ drop n (body m)) cut ∙ take-append-drop n (body m) }
 
 sized_starts : (behind : List ℕ) (j : ℕ) → j ≤ 5 → Sized behind → StartsEntry (take j behind)
@@ -157,9 +157,9 @@ sized_starts behind j few s =
     let m : Entry = record { kind = s.kind; payload = replicate s.size 0 } in
     let long : length m.payload ≡ s.size = length-replicate {A = ℕ} s.size 0 in
     let front : take j behind ≡ take j (kind_letter s.kind ∷ to_be_bytes w32 s.size) =
-        ap (λ (l : List ℕ). take j l) s.is ∙ take-append-le j (kind_letter s.kind ∷ to_be_bytes w32 s.size) s.rest few in
+    ap (λ (l : List ℕ). take j l) s.is ∙ take-append-le j (kind_letter s.kind ∷ to_be_bytes w32 s.size) s.rest few in
     let whole : take j (kind_letter s.kind ∷ to_be_bytes w32 s.size) ≡ take j (body m) =
-        sym (take-append-le j (kind_letter s.kind ∷ to_be_bytes w32 s.size) m.payload few) ∙ ap (λ (n : ℕ). take j (kind_letter s.kind ∷ (to_be_bytes w32 n ++ m.payload))) (sym long) in
+    sym (take-append-le j (kind_letter s.kind ∷ to_be_bytes w32 s.size) m.payload few) ∙ ap (λ (n : ℕ). take j (kind_letter s.kind ∷ (to_be_bytes w32 n ++ m.payload))) (sym long) in
     record {
       entry = m;
       sized = subst IsPayloadLength (sym long) s.sized;
@@ -223,7 +223,7 @@ module _ (header : Header) (es : List Entry) (behind image : List ℕ) (leads : 
       no_whole : Whole behind → ⊥
       no_whole w =
           let e : body w.entry ++ (w.rest ++ u.starts.tail) ≡ body u.starts.entry ++ [] =
-              sym (append_assoc (body w.entry) w.rest u.starts.tail) ∙ ap (λ (l : List ℕ). l ++ u.starts.tail) (sym w.is) ∙ u.starts.whole ∙ sym (append-nil (body u.starts.entry)) in
+          sym (append_assoc (body w.entry) w.rest u.starts.tail) ∙ ap (λ (l : List ℕ). l ++ u.starts.tail) (sym w.is) ∙ u.starts.whole ∙ sym (append-nil (body u.starts.entry)) in
           let same = (body_apart w.entry u.starts.entry (w.rest ++ u.starts.tail) [] w.sized u.starts.sized e).0 in
           omega (arith, u.short, ap length w.is, length-append (body w.entry) w.rest, ap (λ (m : Entry). length (body m)) same)
 
@@ -236,7 +236,7 @@ module _ (header : Header) (es : List Entry) (behind image : List ℕ) (leads : 
           far_and_near : (s : Sized behind) → JOURNAL_BYTES ≤ gate_place es + 6 + s.size → ⊥
           far_and_near s far =
               let e : kind_letter s.kind ∷ (to_be_bytes w32 s.size ++ (s.rest ++ u.starts.tail)) ≡ body u.starts.entry =
-                  sym (ap (λ (l : List ℕ). l ++ u.starts.tail) s.is ∙ append_assoc (kind_letter s.kind ∷ to_be_bytes w32 s.size) s.rest u.starts.tail) ∙ u.starts.whole in
+              sym (ap (λ (l : List ℕ). l ++ u.starts.tail) s.is ∙ append_assoc (kind_letter s.kind ∷ to_be_bytes w32 s.size) s.rest u.starts.tail) ∙ u.starts.whole in
               let same = (sized_apart s.kind u.starts.entry.kind s.size (length u.starts.entry.payload) (s.rest ++ u.starts.tail) u.starts.entry.payload s.sized u.starts.sized e).1 in
               let long : 5 ≤ length behind = omega (arith, ap length s.is, length-append (to_be_bytes w32 s.size) s.rest) in
               omega (arith, same, far, u.near long)

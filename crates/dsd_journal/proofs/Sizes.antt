@@ -1,9 +1,9 @@
 -- Which bytes are the first of a payload's length.
-use Rattle.std.proofs.Common.{◌≡◌, ◌≢◌, ◌⊎◌, inl, inr, ℕ, zero, suc, ◌+◌, ◌*◌, ◌<◌, ◌≤◌, Bool, true, false, ◌&&◌, ◌||◌, ◌==◌, nat_lt, nat_le, if◌then◌else◌, List, [], ◌∷◌, ◌++◌, length, get_or, take, drop, refl, sym, ◌∙◌, ap, subst, arith, Result, Ok, Err, IfOk, IfErr}
+use Rattle.std.proofs.Common.{◌≡◌, ◌≢◌, ◌⊎◌, inl, inr, ℕ, zero, suc, ◌+◌, ◌*◌, ◌<◌, ◌≤◌, true, false, ◌&&◌, ◌||◌, ◌==◌, nat_lt, nat_le, if◌then◌else◌, List, [], ◌∷◌, ◌++◌, get_or, drop, refl, sym, ap, subst, arith, Result, Ok, Err, IfOk, IfErr}
 use Rattle.std.proofs.lemmas.Bool.{cases_eq, cases_lt, cases_Bool}
 use Rattle.std.proofs.lemmas.Bool.Decides.{nat_tests}
 use Rattle.std.proofs.lemmas.Nat.{be_bytes_4}
-use Rattle.std.specs.Int.{w32, to_be_bytes, from_be_bytes}
+use Rattle.std.specs.Int.{w32, to_be_bytes}
 use Rattle.dsd_values.specs.declared.limits.TheConstants.{SET_BYTES}
 use Rattle.dsd_journal.specs.JournalImage.{IsPayloadLength}
 use Rattle.dsd_journal.specs.Reading.{StartsSize, EndsSize, size_of, size_second, size_third, size_fourth}
@@ -90,8 +90,8 @@ decides_4 : (b c : ℕ) → b ≤ 4 → c < 256 → (b < 4) ⊎ (c ≡ 0) → (r
 decides_4 b c hb hc four [] = bad (0 ∷ b ∷ c ∷ []) 3 (record { few = omega arith; before = starts_3 b c hb hc four; ends = inl refl })
 decides_4 b c hb hc four (d ∷ rest) = elim (cases_Bool (nat_lt d 256 && (nat_lt 0 (b * 65536 + c * 256 + d) && nat_le (b * 65536 + c * 256 + d) SET_BYTES))) [
   | inl is ↦ (let tests = fourth_test d (b * 65536 + c * 256 + d) is in
-    subst (λ t. Decides (0 ∷ b ∷ c ∷ d ∷ rest) (if t then Ok (b * 65536 + c * 256 + d) else Err 3)) (sym is)
-    (record { ok = (tests.1, ap (λ (l : List ℕ). l ++ rest) (sym (digits (b * 65536 + c * 256 + d) b c d (omega (arith, hb)) hc tests.0 refl))); err = tt }))
+      subst (λ t. Decides (0 ∷ b ∷ c ∷ d ∷ rest) (if t then Ok (b * 65536 + c * 256 + d) else Err 3)) (sym is)
+      (record { ok = (tests.1, ap (λ (l : List ℕ). l ++ rest) (sym (digits (b * 65536 + c * 256 + d) b c d (omega (arith, hb)) hc tests.0 refl))); err = tt }))
   | inr is ↦ subst (λ t. Decides (0 ∷ b ∷ c ∷ d ∷ rest) (if t then Ok (b * 65536 + c * 256 + d) else Err 3)) (sym is)
       (bad (0 ∷ b ∷ c ∷ d ∷ rest) 3 (record { few = omega arith; before = starts_3 b c hb hc four; ends = inr (omega arith, not_4 b c d (fourth_fails d (b * 65536 + c * 256 + d) is)) }))
 ]

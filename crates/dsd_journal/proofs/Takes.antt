@@ -1,13 +1,13 @@
 -- Entries taken one after the other.
-use Rattle.std.proofs.Common.{◌≡◌, ◌≢◌, ◌⊎◌, inl, inr, ℕ, ◌+◌, ◌<◌, ◌≤◌, List, [], ◌∷◌, ◌++◌, ◌-◌, length, drop, refl, sym, ◌∙◌, ap, subst, arith, append_assoc, length-append, Result, Ok, Err, IsErrAnd}
+use Rattle.std.proofs.Common.{◌≡◌, inl, inr, ℕ, ◌+◌, ◌<◌, ◌≤◌, List, [], ◌∷◌, ◌++◌, ◌-◌, length, drop, refl, sym, ◌∙◌, ap, subst, arith, append_assoc, length-append, Result, Ok, Err, IsErrAnd}
 use Rattle.std.proofs.lemmas.List.{append-nil, drop_at}
 use Rattle.dsd_journal.specs.declared.limits.TheConstants.{JOURNAL_BYTES}
 use Rattle.dsd_journal.specs.declared.entry.Entry.{Entry}
 use Rattle.dsd_journal.specs.declared.entry.EntryKind.{EntryKind}
 use Rattle.dsd_journal.specs.declared.header.Header.{Header}
 use Rattle.dsd_journal.specs.Headers.{header_bytes}
-use Rattle.dsd_journal.specs.JournalImage.{open_gate, body, spelled, gate_place, EachFits, IsPayloadLength, Leads}
-use Rattle.dsd_journal.specs.Reading.{IsBad, IsShut, IsWaiting, IsWhole, Takes, MeetsBad}
+use Rattle.dsd_journal.specs.JournalImage.{open_gate, body, spelled, gate_place, EachFits, Leads}
+use Rattle.dsd_journal.specs.Reading.{IsBad, IsWaiting, IsWhole, Takes, MeetsBad}
 use Rattle.dsd_journal.proofs.Peeling.{spelled_append, body_length}
 
 pub each_append : (es fs : List Entry) → EachFits es → EachFits fs → EachFits (es ++ fs)

@@ -1,10 +1,10 @@
 -- Which bytes begin a header.
-use Rattle.std.proofs.Common.{◌≡◌, ◌≢◌, ◌⊎◌, inl, inr, ℕ, zero, suc, ◌+◌, ◌-◌, ◌<◌, ◌≤◌, Bool, true, false, not, List, [], ◌∷◌, ◌++◌, length, get_or, take, drop, replicate, codes, refl, sym, ◌∙◌, ap, subst, arith, append_assoc, length-append, length-take, length-drop, position, Option, Some, None}
+use Rattle.std.proofs.Common.{◌≡◌, ◌⊎◌, inl, inr, ℕ, zero, suc, ◌+◌, ◌-◌, ◌<◌, ◌≤◌, Bool, true, false, List, [], ◌∷◌, ◌++◌, length, get_or, take, drop, replicate, codes, refl, sym, ◌∙◌, ap, subst, arith, append_assoc, length-append, length-take, length-drop, position, None}
 use Rattle.std.proofs.lemmas.Bool.{cases_lt, cases_eq, false≢true}
 use Rattle.std.proofs.lemmas.List.Sums.{fails_before_first, position_or_len_is}
 use Rattle.std.specs.List.{position_or_len}
 use Rattle.std.proofs.lemmas.Bool.Decides.{nat_tests}
-use Rattle.std.proofs.lemmas.List.{append-nil, take_all, take_at, drop_at, take-append-drop, ext_get_or, get_or-append_right, get_or_append_left, get_or-take, get_or-drop}
+use Rattle.std.proofs.lemmas.List.{take-append-drop, ext_get_or, get_or-append_right, get_or_append_left, get_or-take, get_or-drop}
 use Rattle.dsd_values.proofs.Digits.{none_all}
 use Rattle.dsd_values.specs.Reading.{IsIdText, is_no_id_byte}
 use Rattle.dsd_values.specs.declared.role.Role.{Role}
@@ -12,8 +12,8 @@ use Rattle.dsd_values.specs.declared.role.Role.TheVariants.{Supplier, Receiver}
 use Rattle.dsd_journal.specs.declared.entry.Entry.{Entry}
 use Rattle.dsd_journal.specs.declared.header.Header.{Header}
 use Rattle.dsd_journal.specs.Headers.{IsId, IsHeader, header_bytes, role_letter}
-use Rattle.dsd_journal.specs.JournalImage.{spelled, Leads, IsJournal, Holds}
-use Rattle.dsd_journal.specs.FirstBad.{Begins, StopsAt, Outgrows, IsRefused, Stopped}
+use Rattle.dsd_journal.specs.JournalImage.{spelled, Leads}
+use Rattle.dsd_journal.specs.FirstBad.{Begins, IsRefused, Stopped}
 use Rattle.dsd_journal.specs.Reading.{header_fits, FitsBelow, header_of, role_of_letter}
 use Rattle.dsd_journal.proofs.Peeling.{header_length}
 
@@ -80,20 +80,20 @@ module _ (h : Header) (is : IsHeader h) where
     | inl front ↦ fits_front i front
     | inr low ↦ elim (cases_lt i 16) [
       | inl own ↦ (let j : i - 6 < length h.own = omega (arith, own, low, is.own.ten) in
-        let at : get_or (header_bytes h) i 0 ≡ get_or h.own (i - 6) 0 = behind_front i low ∙ get_or_append_left h.own (h.peer ++ 10 ∷ []) 0 (i - 6) j in
-        let high : i < 26 = omega (arith, own) in
-        subst (λ (b : ℕ). header_fits i b ≡ true) (sym at) (fits_id i (get_or h.own (i - 6) 0) low high (id_byte h.own is.own.text (i - 6) j)))
+          let at : get_or (header_bytes h) i 0 ≡ get_or h.own (i - 6) 0 = behind_front i low ∙ get_or_append_left h.own (h.peer ++ 10 ∷ []) 0 (i - 6) j in
+          let high : i < 26 = omega (arith, own) in
+          subst (λ (b : ℕ). header_fits i b ≡ true) (sym at) (fits_id i (get_or h.own (i - 6) 0) low high (id_byte h.own is.own.text (i - 6) j)))
       | inr past ↦ (let shift : 10 ≤ i - 6 = omega (arith, past) in
-        let at : get_or (header_bytes h) i 0 ≡ get_or (h.peer ++ 10 ∷ []) (i - 6 - 10) 0 = behind_front i low ∙ get_or-append_right h.own (h.peer ++ 10 ∷ []) 10 (i - 6) 0 is.own.ten shift in
-        elim (cases_lt i 26) [
-          | inl high ↦ (let j : i - 6 - 10 < length h.peer = omega (arith, past, high, is.peer.ten) in
-            subst (λ (b : ℕ). header_fits i b ≡ true) (sym (at ∙ get_or_append_left h.peer (10 ∷ []) 0 (i - 6 - 10) j)) (fits_id i (get_or h.peer (i - 6 - 10) 0) low high (id_byte h.peer is.peer.text (i - 6 - 10) j)))
-          | inr last ↦ (let end : i ≡ 26 = omega (arith, last, less) in
-            let shift2 : 10 ≤ i - 6 - 10 = omega (arith, last) in
-            let zero_at : i - 6 - 10 - 10 ≡ 0 = omega (arith, end) in
-            let lf : get_or (10 ∷ []) (i - 6 - 10 - 10) 0 ≡ 10 = ap (λ (k : ℕ). get_or (10 ∷ []) k 0) zero_at in
-            fits_end i (get_or (header_bytes h) i 0) end (at ∙ get_or-append_right h.peer (10 ∷ []) 10 (i - 6 - 10) 0 is.peer.ten shift2 ∙ lf))
-        ])
+          let at : get_or (header_bytes h) i 0 ≡ get_or (h.peer ++ 10 ∷ []) (i - 6 - 10) 0 = behind_front i low ∙ get_or-append_right h.own (h.peer ++ 10 ∷ []) 10 (i - 6) 0 is.own.ten shift in
+          elim (cases_lt i 26) [
+            | inl high ↦ (let j : i - 6 - 10 < length h.peer = omega (arith, past, high, is.peer.ten) in
+                subst (λ (b : ℕ). header_fits i b ≡ true) (sym (at ∙ get_or_append_left h.peer (10 ∷ []) 0 (i - 6 - 10) j)) (fits_id i (get_or h.peer (i - 6 - 10) 0) low high (id_byte h.peer is.peer.text (i - 6 - 10) j)))
+            | inr last ↦ (let end : i ≡ 26 = omega (arith, last, less) in
+                let shift2 : 10 ≤ i - 6 - 10 = omega (arith, last) in
+                let zero_at : i - 6 - 10 - 10 ≡ 0 = omega (arith, end) in
+                let lf : get_or (10 ∷ []) (i - 6 - 10 - 10) 0 ≡ 10 = ap (λ (k : ℕ). get_or (10 ∷ []) k 0) zero_at in
+                fits_end i (get_or (header_bytes h) i 0) end (at ∙ get_or-append_right h.peer (10 ∷ []) 10 (i - 6 - 10) 0 is.peer.ten shift2 ∙ lf))
+          ])
     ]
   ]
 
@@ -147,22 +147,22 @@ module _ (bytes : List ℕ) (long : length bytes ≡ 27) (fits : FitsBelow 27 by
         | inl front ↦ front_at i front
         | inr low ↦ elim (cases_lt i 16) [
           | inl own ↦ (let j : i - 6 < 10 = omega (arith, own, low) in
-            let k : i - 6 < length h.own = omega (arith, j, header_of_is.own.ten) in
-            let back : 6 + (i - 6) ≡ i = omega (arith, low) in
-            behind_front h header_of_is i low ∙ get_or_append_left h.own (h.peer ++ 10 ∷ []) 0 (i - 6) k ∙ piece 6 (i - 6) j (omega arith) ∙ ap (λ (n : ℕ). get_or bytes n 0) back)
+              let k : i - 6 < length h.own = omega (arith, j, header_of_is.own.ten) in
+              let back : 6 + (i - 6) ≡ i = omega (arith, low) in
+              behind_front h header_of_is i low ∙ get_or_append_left h.own (h.peer ++ 10 ∷ []) 0 (i - 6) k ∙ piece 6 (i - 6) j (omega arith) ∙ ap (λ (n : ℕ). get_or bytes n 0) back)
           | inr past ↦ (let shift : 10 ≤ i - 6 = omega (arith, past) in
-            let at : get_or (header_bytes h) i 0 ≡ get_or (h.peer ++ 10 ∷ []) (i - 6 - 10) 0 = behind_front h header_of_is i low ∙ get_or-append_right h.own (h.peer ++ 10 ∷ []) 10 (i - 6) 0 header_of_is.own.ten shift in
-            elim (cases_lt i 26) [
-              | inl high ↦ (let j : i - 6 - 10 < 10 = omega (arith, past, high) in
-                let k : i - 6 - 10 < length h.peer = omega (arith, j, header_of_is.peer.ten) in
-                let back : 16 + (i - 6 - 10) ≡ i = omega (arith, past) in
-                at ∙ get_or_append_left h.peer (10 ∷ []) 0 (i - 6 - 10) k ∙ piece 16 (i - 6 - 10) j (omega arith) ∙ ap (λ (n : ℕ). get_or bytes n 0) back)
-              | inr last ↦ (let end : i ≡ 26 = omega (arith, last, less) in
-                let shift2 : 10 ≤ i - 6 - 10 = omega (arith, last) in
-                let zero_at : i - 6 - 10 - 10 ≡ 0 = omega (arith, end) in
-                let lf : get_or (10 ∷ []) (i - 6 - 10 - 10) 0 ≡ 10 = ap (λ (k : ℕ). get_or (10 ∷ []) k 0) zero_at in
-                at ∙ get_or-append_right h.peer (10 ∷ []) 10 (i - 6 - 10) 0 header_of_is.peer.ten shift2 ∙ lf ∙ sym (end_fits i (get_or bytes i 0) end (fits i less)))
-            ])
+              let at : get_or (header_bytes h) i 0 ≡ get_or (h.peer ++ 10 ∷ []) (i - 6 - 10) 0 = behind_front h header_of_is i low ∙ get_or-append_right h.own (h.peer ++ 10 ∷ []) 10 (i - 6) 0 header_of_is.own.ten shift in
+              elim (cases_lt i 26) [
+                | inl high ↦ (let j : i - 6 - 10 < 10 = omega (arith, past, high) in
+                    let k : i - 6 - 10 < length h.peer = omega (arith, j, header_of_is.peer.ten) in
+                    let back : 16 + (i - 6 - 10) ≡ i = omega (arith, past) in
+                    at ∙ get_or_append_left h.peer (10 ∷ []) 0 (i - 6 - 10) k ∙ piece 16 (i - 6 - 10) j (omega arith) ∙ ap (λ (n : ℕ). get_or bytes n 0) back)
+                | inr last ↦ (let end : i ≡ 26 = omega (arith, last, less) in
+                    let shift2 : 10 ≤ i - 6 - 10 = omega (arith, last) in
+                    let zero_at : i - 6 - 10 - 10 ≡ 0 = omega (arith, end) in
+                    let lf : get_or (10 ∷ []) (i - 6 - 10 - 10) 0 ≡ 10 = ap (λ (k : ℕ). get_or (10 ∷ []) k 0) zero_at in
+                    at ∙ get_or-append_right h.peer (10 ∷ []) 10 (i - 6 - 10) 0 header_of_is.peer.ten shift2 ∙ lf ∙ sym (end_fits i (get_or bytes i 0) end (fits i less)))
+              ])
         ]
       ]
 
@@ -198,10 +198,10 @@ module _ (image : List ℕ) (place : ℕ) (low : place < 27) (inside : place ≤
     | inl before ↦ subst (λ (b : ℕ). header_fits i b ≡ true)
         (sym (get_or_append_left (take place image) (drop place (header_bytes some_header)) 0 i (omega (arith, before, length-take place image, inside)) ∙ get_or-take place image i 0 before)) (fits i before)
     | inr past ↦ (let back : place + (i - place) ≡ i = omega (arith, past) in
-      let front : length (take place image) ≡ place = omega (arith, length-take place image, inside) in
-      subst (λ (b : ℕ). header_fits i b ≡ true)
-      (sym (get_or-append_right (take place image) (drop place (header_bytes some_header)) place i 0 front past ∙ get_or-drop place (header_bytes some_header) (i - place) 0 ∙ ap (λ (n : ℕ). get_or (header_bytes some_header) n 0) back))
-      (header_fits_at some_header some_titled i less))
+        let front : length (take place image) ≡ place = omega (arith, length-take place image, inside) in
+        subst (λ (b : ℕ). header_fits i b ≡ true)
+        (sym (get_or-append_right (take place image) (drop place (header_bytes some_header)) place i 0 front past ∙ get_or-drop place (header_bytes some_header) (i - place) 0 ∙ ap (λ (n : ℕ). get_or (header_bytes some_header) n 0) back))
+        (header_fits_at some_header some_titled i less))
   ]
 
   begins : Begins (take place image)

@@ -1,6 +1,7 @@
 -- What the calls of a journal do to what its station tells.
-use Rattle.std.specs.Prelude.{ℕ, ◌+◌, ◌<◌, ◌≤◌, ◌≡◌, ◌≢◌, ◌⊎◌, Bool, false, List, [], ◌∷◌, ◌++◌, length, Result, Ok, Err, OnOk}
+use Rattle.std.specs.Prelude.{ℕ, ◌+◌, ◌<◌, ◌≤◌, ◌≡◌, ◌⊎◌, List, [], ◌++◌, length, Result, Ok, Err, OnOk}
 use Rattle.dsd_station.specs.declared.call.Call.{Call}
+use Rattle.dsd_station.specs.declared.failed.Failed.{Failed}
 use Rattle.dsd_station.specs.Disk.{Torn}
 use Rattle.dsd_station.specs.Failures.{failed_in}
 use Rattle.dsd_station.specs.Puts.{Goes}
@@ -12,7 +13,7 @@ use Rattle.dsd_journal.specs.declared.formatting.FormatFault.{FormatFault}
 use Rattle.dsd_journal.specs.declared.formatting.FormatFault.TheVariants.{NotEmpty, Station}
 use Rattle.dsd_journal.specs.declared.entry.Entry.{Entry}
 use Rattle.dsd_journal.specs.declared.header.Header.{Header}
-use Rattle.dsd_journal.specs.Headers.{header_bytes}
+use Rattle.dsd_journal.specs.Headers.{formatted, IsHeader}
 use Rattle.dsd_journal.specs.JournalImage.{Holds}
 use Rattle.dsd_journal.specs.Journals.{View, Rests, WithOrWithout}
 
@@ -58,9 +59,11 @@ pub record Opens (old new : Told) : Type 0 where
   pub syncs : new.syncs ≤ old.syncs + 1
   pub stops : EachStop old new (λ image out. LeavesAt old.now image out ⊎ ((image ≡ old.journal) × (out ≡ old.now.gone)))
 
--- The bytes of a journal without entries: its header and a closed gate.
-abbrev pub formatted : Header → List ℕ
-formatted header = header_bytes header ++ 0 ∷ []
+-- What a write of a header and a sync do to an empty journal. After a failure a first part of it may be written, or other bytes.
+pub record WritesHeader (header : Header) (result : Result (Unit {0}) Failed) (old new : Told) : Type 0 where
+  pub keeps : KeepsTalk old new
+  pub ok : OnOk result ((new.journal ≡ formatted header) × IsHeader header × IsSynced new × Unfailed old new)
+  pub torn : Torn 0 28 [] new.journal
 
 -- A format writes over an empty journal alone.
 pub record Formats (header : Header) (result : Result (Unit {0}) FormatFault) (old new : Told) : Type 0 where

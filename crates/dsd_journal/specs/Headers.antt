@@ -22,3 +22,7 @@ pub record IsHeader (header : Header) : Type 0 where
 -- 27 bytes: the format, the role's letter, the own id, the peer's id and an LF
 abbrev pub header_bytes : Header → List ℕ
 header_bytes header = codes "DEXJ1" ++ role_letter header.role ∷ (header.own ++ (header.peer ++ 10 ∷ []))
+
+-- The bytes of a journal without entries: its header and a closed gate.
+abbrev pub formatted : Header → List ℕ
+formatted header = header_bytes header ++ 0 ∷ []

@@ -1,5 +1,5 @@
 -- What contracts see of the fields of entries and of a journal, and what holds of them.
-use Rattle.std.specs.Prelude.{ℕ, ◌+◌, ◌-◌, ◌<◌, ◌≤◌, ◌≡◌, [], min, length, vec_len, vec_capacity}
+use Rattle.std.specs.Prelude.{◌-◌, ◌<◌, ◌≡◌, min, vec_len, vec_capacity}
 use Rattle.dsd_journal.specs.declared.limits.TheConstants.{JOURNAL_BYTES}
 use Rattle.dsd_journal.specs.declared.entries.Entries.TheInside.{Inside as EntriesInside}
 use Rattle.dsd_journal.specs.JournalImage.{gate_place, EachFits}

@@ -1,5 +1,5 @@
 -- What contracts see of a journal's fields, and what holds of them.
-use Rattle.std.specs.Prelude.{ℕ, ◌+◌, ◌<◌, ◌≤◌, ◌≡◌, vec_len, vec_capacity}
+use Rattle.std.specs.Prelude.{◌+◌, ◌<◌, ◌≤◌, ◌≡◌, vec_len, vec_capacity}
 use Rattle.dsd_journal.specs.declared.journal.Journal.TheInside.{Inside}
 use Rattle.dsd_journal.specs.Journals.{View}
 

@@ -1,5 +1,5 @@
 -- A journal as contracts see it, and what its station has of it.
-use Rattle.std.specs.Prelude.{ℕ, ◌≡◌, ◌⊎◌, Bool, false, List, [], ◌∷◌, ◌++◌}
+use Rattle.std.specs.Prelude.{ℕ, ◌⊎◌, Bool, false, List, [], ◌∷◌, ◌++◌}
 use Rattle.dsd_station.specs.Told.{Told, IsSynced}
 use Rattle.dsd_journal.specs.declared.entry.Entry.{Entry}
 use Rattle.dsd_journal.specs.declared.header.Header.{Header}

@@ -1,10 +1,15 @@
 -- The four device calls of an append: bytes behind a closed gate, made sure of, and then the open gate, made sure of.
-use Rattle.std.specs.Prelude.{ℕ, ◌+◌, ◌≤◌, ◌≡◌, ◌⊎◌, List, [], ◌∷◌, length, Result, OnOk}
+use Rattle.std.specs.Prelude.{ℕ, ◌+◌, ◌≤◌, ◌≡◌, ◌⊎◌, List, [], ◌∷◌, ◌++◌, length, Result, OnOk}
 use Rattle.dsd_station.specs.declared.failed.Failed.{Failed}
 use Rattle.dsd_station.specs.Disk.{overwritten, Torn}
 use Rattle.dsd_station.specs.Told.{Told, IsSynced, EachStop}
+use Rattle.dsd_journal.specs.declared.entry.Entry.{Entry}
 use Rattle.dsd_journal.specs.Devices.{KeepsTalk}
-use Rattle.dsd_journal.specs.JournalImage.{open_gate}
+use Rattle.dsd_journal.specs.JournalImage.{open_gate, body, spelled}
+
+-- The bytes of an append: the entries with open gates between them, and a closed one behind them.
+abbrev pub batch_of : Entry → List Entry → List ℕ
+batch_of first more = body first ++ (spelled more ++ 0 ∷ [])
 
 -- a stop leaves the bytes torn behind the gate, or the gate torn before them
 abbrev pub TornInTwo : ℕ → List ℕ → List ℕ → List ℕ → Type 0

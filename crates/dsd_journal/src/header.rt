@@ -1,8 +1,8 @@
 //! How a journal begins.
 
-ghost use Rattle.std.specs.Prelude.{◌≡◌, ◌⊎◌, ◌<◌, ◌≤◌, ◌++◌, [], ◌∷◌, false, length, drop, IfErr, IfOk, MatchOption, slice_index_or};
+ghost use Rattle.std.specs.Prelude.{◌≡◌, ◌⊎◌, ◌<◌, ◌≤◌, [], false, length, drop, IfErr, IfOk, MatchOption, slice_index_or};
 ghost use Rattle.dsd_values.specs.Reading.{IsIdText};
-ghost use Rattle.dsd_journal.specs.Headers.{IsId, header_bytes, role_letter as letter_of_role};
+ghost use Rattle.dsd_journal.specs.Headers.{IsHeader, IsId, formatted, role_letter as letter_of_role};
 ghost use Rattle.dsd_journal.specs.JournalImage.{Leads};
 ghost use Rattle.dsd_journal.specs.Reading.{header_fits, header_of, role_of_letter, FitsBelow, IsMistitled};
 
@@ -103,7 +103,8 @@ fn role_letter(role: Role) -> u8
 
 // The bytes of a journal without entries.
 pub(crate) fn formatted_bytes(header: &Header) -> ArrayVec<u8, 28>
-    ensures { result.items ≡ header_bytes header.now ++ 0 ∷ [] }
+    ensures items { result.items ≡ formatted header.now }
+    ensures titled { IsHeader header.now }
 {
     let mut bytes = ArrayVec::new();
     let _ = bytes.try_extend_from_slice(&FORMAT);

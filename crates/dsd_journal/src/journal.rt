@@ -1,16 +1,24 @@
 //! A journal that is open.
 
-ghost use Rattle.std.specs.Prelude.{◌≡◌, ◌≤◌, ◌<◌, ◌+◌, length, max, take, slice_index_or, OnErr, OnOk, true};
-ghost use Rattle.dsd_journal.specs.declared.entry.Entry.{Entry};
+ghost use Rattle.std.specs.Prelude.{◌≡◌, ◌⊎◌, ◌≤◌, ◌<◌, ◌+◌, [], ◌∷◌, length, max, take, slice_index_or, Err, IsTrue, Ok, OnErr, OnOk, true};
+ghost use Rattle.dsd_station.specs.Causes.{Rose};
+ghost use Rattle.dsd_station.specs.Told.{ReadMayStay};
+ghost use Rattle.dsd_journal.specs.Devices.{Appends};
 ghost use Rattle.dsd_journal.specs.JournalImage.{gate_place, IsPayloadLength};
-ghost use Rattle.dsd_journal.specs.Journals.{with_spare};
+ghost use Rattle.dsd_journal.specs.Journals.{with_entry, with_spare, without_work, Rests};
 
+use crate::append::AppendFault;
+use crate::batch::{add, fill};
 use crate::entries::Entries;
-use crate::entry::EntryKind;
+use crate::entry::{Entry, EntryKind};
 use crate::header::Header;
-use dsd_values::{CommId, Memory, Role};
+use crate::limits::JOURNAL_BYTES;
+use crate::steps::open_gate;
+use dsd_station::Station;
+use dsd_values::{CommId, Memory, Role, SetText};
 use std::alloc::Global;
 use std::marker::Model;
+use std::mem;
 
 // What an entry takes of a journal beside its payload: its kind, four bytes of length, and the gate behind it.
 const BATCH_BYTES: usize = 6;
@@ -134,5 +142,61 @@ impl Journal {
         self.batch.reserve(batch)?;
         self.spare = self.spare.max(length);
         Ok(())
+    }
+
+    /// Adds an entry and makes sure of it. It takes no memory.
+    ///
+    /// At each stop since its start the image holds the entries before, or these and the new one; after an `Ok` it
+    /// holds the new one, at each later stop too. The station has to be as the journal's last call left it.
+    pub fn append<T: Station>(
+        &mut self,
+        station: &mut T,
+        kind: EntryKind,
+        payload: &[u8],
+    ) -> Result<(), AppendFault>
+        requires works { IsTrue self.old.works }
+        requires room { length payload.now ≤ self.old.spare }
+        requires length { IsPayloadLength (length payload.now) }
+        requires rests { T.tells → Rests self.old (T.told station.old) }
+        ensures later { T.faults station.old ≤ T.faults station.new }
+        // `Full` comes exactly where the journal would be too long, and then nothing has changed.
+        ensures full { JOURNAL_BYTES < gate_place self.old.entries + 7 + length payload.now
+            → (result ≡ Err (AppendFault.Full (gate_place self.old.entries + 7 + length payload.now))) × (self.new ≡ self.old) × (station.new ≡ station.old) }
+        // Else the entry is added, or the station failed.
+        ensures fits { gate_place self.old.entries + 7 + length payload.now ≤ JOURNAL_BYTES
+            → ((result ≡ Ok tt) × (self.new ≡ with_entry self.old (record { kind = kind; payload = payload.now })))
+            ⊎ ((result ≡ Err AppendFault.Station) × (self.new ≡ without_work self.old) × Rose (T.faults station.old) (T.faults station.new)) }
+        ensures told { T.tells → Appends self.old ((record { kind = kind; payload = payload.now }) ∷ []) result self.new (T.told station.old) (T.told station.new) }
+        ensures stays { T.tells → ReadMayStay (T.told station.new) }
+    {
+        let length = self.entries.gate() + 7 + payload.len() as u64;
+        if length > JOURNAL_BYTES {
+            return Err(AppendFault::Full(length));
+        }
+        fill(&mut self.batch, kind, payload);
+        match open_gate(station, self.entries.gate(), &self.batch) {
+            Ok(()) => {
+                self.keep(kind, payload);
+                Ok(())
+            }
+            Err(_) => {
+                self.works = false;
+                Err(AppendFault::Station)
+            }
+        }
+    }
+
+    // Keeps an entry in the room that was made for it.
+    fn keep(&mut self, kind: EntryKind, payload: &[u8])
+        requires room { length payload.now ≤ self.old.spare }
+        requires length { IsPayloadLength (length payload.now) }
+        requires near { gate_place self.old.entries + 6 + length payload.now < JOURNAL_BYTES }
+        ensures { self.new ≡ with_entry self.old (record { kind = kind; payload = payload.now }) }
+    {
+        add(&mut self.payload, payload);
+        let bytes = mem::replace(&mut self.payload, Vec::new(self.alloc));
+        let payload = SetText::from_bytes(bytes);
+        self.entries.push_reserved(Entry { kind, payload });
+        self.spare = 0;
     }
 }

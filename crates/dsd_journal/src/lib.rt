@@ -2,6 +2,7 @@
 #![tactic(auto)]
 
 mod append;
+mod batch;
 mod entries;
 mod entry;
 mod formatting;
@@ -13,11 +14,12 @@ mod limits;
 mod opening;
 mod pieces;
 mod reading;
+mod steps;
 mod taking;
 
 pub use append::AppendFault;
 pub use entry::{Entry, EntryKind};
-pub use formatting::FormatFault;
+pub use formatting::{FormatFault, format};
 pub use header::Header;
 pub use journal::Journal;
 pub use laws::{an_image_holds_one_list, an_image_is_held_or_refused};

@@ -2,7 +2,7 @@
 
 ghost use Rattle.std.specs.Prelude.{◌≤◌, ◌≡◌, ◌⊎◌, ℕ, length, Err, IfErr, IfOk, IsTrue, true};
 ghost use Rattle.dsd_station.specs.Causes.{Rose};
-ghost use Rattle.dsd_station.specs.Told.{IsSynced};
+ghost use Rattle.dsd_station.specs.Told.{IsSynced, ReadMayStay};
 ghost use Rattle.dsd_journal.specs.Devices.{IsStationFault, Looks, Opens, Unfailed};
 ghost use Rattle.dsd_journal.specs.FirstBad.{IsRefused};
 ghost use Rattle.dsd_journal.specs.JournalImage.{Holds};
@@ -55,6 +55,7 @@ pub fn open_journal<T: Station>(alloc: Global, station: &mut T) -> Result<Journa
     // No call of the station has failed, and all of its journal is sure, unless `Station` is answered.
     ensures unfailed { T.tells → IsStationFault result ⊎ (Unfailed (T.told station.old) (T.told station.new) × IsSynced (T.told station.new)) }
     ensures told { T.tells → Opens (T.told station.old) (T.told station.new) }
+    ensures stays { T.tells → ReadMayStay (T.told station.new) }
 {
     match station.sync() {
         Err(_) => Err(OpenFault::Station),

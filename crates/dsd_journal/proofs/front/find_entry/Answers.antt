@@ -1,6 +1,5 @@
-use Rattle.std.proofs.Common.{◌≡◌, ◌<◌, ◌≤◌, ◌+◌, ◌-◌, ℕ, List, ap, sym, subst, ◌∙◌, arith, length, take, drop, get_or, Option, Some, Result, Ok}
+use Rattle.std.proofs.Common.{◌≡◌, ◌<◌, ◌≤◌, ◌+◌, ◌-◌, ℕ, List, ap, sym, ◌∙◌, arith, length, take, drop, Some, Ok}
 use Rattle.std.proofs.lemmas.List.{drop-drop, take_rest}
-use Rattle.dsd_journal.specs.declared.entry.EntryKind.{EntryKind}
 use Rattle.dsd_journal.specs.declared.limits.TheConstants.{JOURNAL_BYTES}
 use Rattle.dsd_journal.specs.Reading.{size_of}
 use Rattle.dsd_journal.proofs.Fronts.{entry_found}

@@ -1,4 +1,4 @@
-use Rattle.std.proofs.Common.{◌≤◌, arith}
+use Rattle.std.proofs.Common.{arith}
 use Rattle.dsd_journal.proofs.Titles.{id_at}
 use Rattle.dsd_journal.proofs.header.header_in.Goals as goal
 

@@ -1,4 +1,4 @@
-use Rattle.std.proofs.Common.{◌≡◌, ◌≤◌, ℕ, [], arith, subst, sym, drop, min, length}
+use Rattle.std.proofs.Common.{◌≡◌, ◌≤◌, [], arith, subst, sym, drop, length}
 use Rattle.dsd_journal.specs.declared.header.Header.{Header}
 use Rattle.dsd_journal.specs.JournalImage.{Leads}
 use Rattle.dsd_journal.proofs.Titles.{front_leads}

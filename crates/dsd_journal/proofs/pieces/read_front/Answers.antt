@@ -1,8 +1,4 @@
-use Rattle.std.proofs.Common.{◌≡◌, ◌≤◌, ◌+◌, ℕ, length, sym, subst, ap, ◌∙◌, arith}
-use Rattle.dsd_station.specs.Told.{Told}
-use Rattle.dsd_journal.specs.declared.opening.OpenFault.{OpenFault}
-use Rattle.dsd_journal.specs.declared.opening.OpenFault.TheVariants.{Station}
-use Rattle.dsd_journal.specs.Devices.{Looks}
+use Rattle.std.proofs.Common.{length, subst, ◌∙◌, arith}
 use Rattle.dsd_journal.specs.Pieces.{ReadsOn}
 use Rattle.dsd_journal.proofs.Looking.{looks_then, so_far_on}
 use Rattle.dsd_journal.proofs.pieces.read_front.Goals as goal

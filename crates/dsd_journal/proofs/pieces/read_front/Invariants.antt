@@ -1,4 +1,4 @@
-use Rattle.std.proofs.Common.{◌≡◌, ◌≤◌, ◌+◌, ◌-◌, ℕ, length, vec_len}
+use Rattle.std.proofs.Common.{◌≡◌, ◌≤◌, ◌-◌, length, vec_len}
 use Rattle.dsd_journal.specs.declared.pieces.TheConstants.{PIECE_BYTES}
 use Rattle.dsd_journal.specs.Devices.{Looks}
 use Rattle.dsd_journal.specs.Pieces.{IsSoFar}

@@ -1,6 +1,6 @@
-use Rattle.std.proofs.Common.{◌≡◌, ◌≤◌, ◌<◌, ◌+◌, ◌-◌, ℕ, List, Bool, false, true, length, take, drop, ◌++◌, refl, sym, subst, ap, ◌∙◌, arith, Result, Ok, Err}
+use Rattle.std.proofs.Common.{◌≡◌, ◌≤◌, ◌+◌, ℕ, List, Bool, length, take, drop, ◌++◌, sym, subst, ◌∙◌, arith, Result, Err}
 use Rattle.dsd_journal.specs.declared.opening.OpenFault.{OpenFault}
-use Rattle.dsd_journal.specs.declared.opening.OpenFault.TheVariants.{Station, NotAJournal}
+use Rattle.dsd_journal.specs.declared.opening.OpenFault.TheVariants.{NotAJournal}
 use Rattle.dsd_journal.specs.declared.entry.Entry.{Entry}
 use Rattle.dsd_journal.specs.declared.header.Header.{Header}
 use Rattle.dsd_journal.specs.FirstBad.{IsRefused}
@@ -26,7 +26,7 @@ returns-in-Ok-true-clause-held g c = λ tells.
     let was = c.loop-fault.invariant.read tells in
     let image = (g.T.Station.told c.args.station.now).journal in
     let leads = leads_takes c.loop-fault.reading.header c.loop-fault.reading.entries.list c.take_front.new.entries.list c.loop-fault.reading.bytes.items c.take_front.new.bytes.items (take c.loop-fault.reading.at image)
-        c.in-Ok-true.ensures.taken was.leads in
+    c.in-Ok-true.ensures.taken was.leads in
     read_shut c.loop-fault.reading.header c.take_front.new.entries.list c.take_front.new.bytes.items image c.loop-fault.reading.at leads c.in-Ok-true.ensures.near (c.in-Ok-true.ensures.shut c.in-Ok-true.field-0-test)
 
 pub returns-in-Err-read_more-clause-told : goal.returns-in-Err-read_more-clause-told
@@ -41,10 +41,10 @@ returns-in-Ok-eq0-clause-refused g c = λ tells place is.
     let image = (g.T.Station.told c.args.station.now).journal in
     let at = c.loop-fault.reading.at in
     let leads = leads_takes c.loop-fault.reading.header c.loop-fault.reading.entries.list c.take_front.new.entries.list c.loop-fault.reading.bytes.items c.take_front.new.bytes.items (take at image)
-        c.in-Ok-false.ensures.taken read.leads in
+    c.in-Ok-false.ensures.taken read.leads in
     let reads = subst (λ j. ReadsOn j at (length c.loop-fault.piece) c.in-Ok-eq0.field-0 c.take_front.new.bytes.items c.read_more.new.bytes.items) (was.told tells).untouched.journal (c.in-Ok-eq0.ensures.bytes tells) in
     let end = ended image at (length c.loop-fault.piece) c.take_front.new.bytes.items c.read_more.new.bytes.items read.inside (omega (arith, was.piece))
-        (subst (λ n. ReadsOn image at (length c.loop-fault.piece) n c.take_front.new.bytes.items c.read_more.new.bytes.items) c.in-Ok-eq0.field-0-test reads) in
+    (subst (λ n. ReadsOn image at (length c.loop-fault.piece) n c.take_front.new.bytes.items c.read_more.new.bytes.items) c.in-Ok-eq0.field-0-test reads) in
     let same : at ≡ place = placed at place is in
     subst (IsRefused image) same (read_ended c.loop-fault.reading.header c.take_front.new.entries.list c.take_front.new.bytes.items image at leads c.in-Ok-false.ensures.near end (c.in-Ok-false.ensures.waiting c.in-Ok-false.field-0-test))
   where
@@ -60,7 +60,7 @@ overflow_add-reading g c =
     let was = c.loop-fault.invariant in
     let counted : c.loop-fault.reading.at ≡ gate_place c.loop-fault.reading.entries.list + length c.loop-fault.reading.bytes.items = omega (arith, was.counted) in
     let low = low_place c.loop-fault.reading.at c.loop-fault.reading.entries.list c.take_front.new.entries.list c.loop-fault.reading.bytes.items c.take_front.new.bytes.items counted c.in-Ok-false.ensures.taken
-        c.in-Ok-false.ensures.near (c.in-Ok-false.ensures.waiting c.in-Ok-false.field-0-test) in
+    c.in-Ok-false.ensures.near (c.in-Ok-false.ensures.waiting c.in-Ok-false.field-0-test) in
     omega (arith, low, c.in-Ok.ensures.most, was.piece)
 
 pub loop-fault-smaller : goal.loop-fault-smaller
@@ -68,7 +68,7 @@ loop-fault-smaller g c =
     let was = c.loop-fault.invariant in
     let counted : c.loop-fault.reading.at ≡ gate_place c.loop-fault.reading.entries.list + length c.loop-fault.reading.bytes.items = omega (arith, was.counted) in
     let low = low_place c.loop-fault.reading.at c.loop-fault.reading.entries.list c.take_front.new.entries.list c.loop-fault.reading.bytes.items c.take_front.new.bytes.items counted c.in-Ok-false.ensures.taken
-        c.in-Ok-false.ensures.near (c.in-Ok-false.ensures.waiting c.in-Ok-false.field-0-test) in
+    c.in-Ok-false.ensures.near (c.in-Ok-false.ensures.waiting c.in-Ok-false.field-0-test) in
     omega (arith, low, c.in-Ok.count-test)
 
 pub loop-fault-preserved : goal.loop-fault-preserved
@@ -93,6 +93,8 @@ loop-fault-preserved g c =
     read_on : (header : Header) (es fs : List Entry) (x y z image : List ℕ) (at room count : ℕ) → Takes es fs x y → Leads header es x (take at image) → at ≤ length image → ReadsOn image at room count y z
         → Leads header fs z (take (at + count) image) × (at + count ≤ length image)
     read_on header es fs x y z image at room count taken leads inside reads =
-        let more = taken_on image at room count y z inside reads in
-        (subst (λ l. Leads header fs z l) (sym more.0) (subst (λ l. Leads header fs l (take at image ++ take count (drop at image))) (sym reads.more)
-            (leads_more header fs y (take count (drop at image)) (take at image) (leads_takes header es fs x y (take at image) taken leads))), more.1)
+        let more = taken_on image at room count y z inside reads in (
+          subst (λ l. Leads header fs z l) (sym more.0) (subst (λ l. Leads header fs l (take at image ++ take count (drop at image))) (sym reads.more)
+              (leads_more header fs y (take count (drop at image)) (take at image) (leads_takes header es fs x y (take at image) taken leads))),
+          more.1,
+        )

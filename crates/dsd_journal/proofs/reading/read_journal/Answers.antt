@@ -1,4 +1,4 @@
-use Rattle.std.proofs.Common.{◌≡◌, ℕ, List, subst}
+use Rattle.std.proofs.Common.{ℕ, List, subst}
 use Rattle.dsd_journal.specs.FirstBad.{IsRefused}
 use Rattle.dsd_journal.proofs.Looking.{looks_then}
 use Rattle.dsd_journal.proofs.reading.read_journal.Goals as goal

@@ -1,4 +1,4 @@
-use Rattle.std.proofs.Common.{◌≡◌, ◌-◌, ℕ, List, length, sym, ◌∙◌, subst, inl, inr, arith}
+use Rattle.std.proofs.Common.{sym, ◌∙◌, subst, inl, inr, arith}
 use Rattle.dsd_journal.specs.JournalImage.{gate_place, spelled}
 use Rattle.dsd_journal.specs.Reading.{IsWaiting}
 use Rattle.dsd_journal.proofs.Takes.{cut_is}

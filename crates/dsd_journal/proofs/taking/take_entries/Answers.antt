@@ -1,6 +1,4 @@
-use Rattle.std.proofs.Common.{◌≡◌, ℕ, sym, ap, subst, ◌∙◌, Result, Err}
 use Rattle.dsd_journal.specs.declared.opening.OpenFault.TheVariants.{NotAJournal}
-use Rattle.dsd_journal.specs.Reading.{Takes}
 use Rattle.dsd_journal.proofs.Takes.{takes_then, meets_then, same_err}
 use Rattle.dsd_journal.proofs.taking.take_entries.Goals as goal
 

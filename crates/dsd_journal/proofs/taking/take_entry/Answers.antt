@@ -1,4 +1,4 @@
-use Rattle.std.proofs.Common.{◌≡◌, ℕ, sym, ap, subst, ◌∙◌}
+use Rattle.std.proofs.Common.{◌≡◌, ℕ, subst}
 use Rattle.dsd_journal.specs.Reading.{IsBad}
 use Rattle.dsd_journal.proofs.Takes.{meets_here}
 use Rattle.dsd_journal.proofs.taking.take_entry.Goals as goal

@@ -1,4 +1,4 @@
-use Rattle.std.proofs.Common.{◌≡◌, ◌<◌, ◌≤◌, length, sym, subst, arith}
+use Rattle.std.proofs.Common.{◌<◌, subst, arith}
 use Rattle.dsd_journal.specs.declared.limits.TheConstants.{JOURNAL_BYTES}
 use Rattle.dsd_journal.proofs.Places.{few_entries}
 use Rattle.dsd_journal.proofs.entries.Entries.len.Goals as goal

@@ -1,4 +1,4 @@
-use Rattle.std.proofs.Common.{◌≡◌, ◌<◌, List, ℕ, ap, subst, sym, ◌∙◌, length}
+use Rattle.std.proofs.Common.{◌<◌, List, ℕ, ap, subst, sym, ◌∙◌, length}
 use Rattle.dsd_journal.specs.declared.entry.Entry.{Entry}
 use Rattle.dsd_journal.specs.JournalImage.{IsPayloadLength}
 use Rattle.dsd_journal.specs.Kept.{Shelf}

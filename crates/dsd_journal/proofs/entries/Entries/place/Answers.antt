@@ -1,4 +1,4 @@
-use Rattle.std.proofs.Common.{◌≡◌, ◌<◌, ◌+◌, ℕ, List, ap, subst, sym, ◌∙◌, length, take, get_or, arith}
+use Rattle.std.proofs.Common.{◌<◌, ◌+◌, ℕ, List, ap, subst, sym, ◌∙◌, length, take, get_or, arith}
 use Rattle.dsd_journal.specs.JournalImage.{gate_place}
 use Rattle.dsd_journal.specs.Kept.{Shelf}
 use Rattle.dsd_journal.proofs.Places.{places_length, place_at}

@@ -1,5 +1,4 @@
-use Rattle.std.proofs.Common.{◌≡◌, ◌<◌, ℕ, List, ap, subst, sym, ◌∙◌, length, arith, ◌+◌, ◌++◌, [], ◌∷◌}
-use Rattle.dsd_journal.specs.declared.entry.Entry.{Entry}
+use Rattle.std.proofs.Common.{◌<◌, ℕ, List, ap, subst, sym, ◌∙◌, length, arith, ◌+◌, ◌++◌, [], ◌∷◌}
 use Rattle.dsd_journal.specs.declared.limits.TheConstants.{JOURNAL_BYTES}
 use Rattle.dsd_journal.specs.JournalImage.{EachFits, gate_place}
 use Rattle.dsd_journal.specs.Kept.{Shelf, places_from}

@@ -1,0 +1,53 @@
+-- A sync, and calls that only look behind it.
+use Rattle.std.proofs.Common.{◌≡◌, ◌⊎◌, inl, inr, ℕ, List, [], ◌∷◌, sym, ◌∙◌, ap, subst, arith, append-nil, Result, Ok, Err, IfErr}
+use Rattle.dsd_station.specs.declared.failed.Failed.{Failed}
+use Rattle.dsd_station.specs.declared.call.Call.{Call}
+use Rattle.dsd_station.specs.declared.call.Call.TheVariants.{Sync}
+use Rattle.dsd_station.specs.declared.call.Outcome.{Outcome}
+use Rattle.dsd_station.specs.Effects.{Syncs, AddsAs, synced}
+use Rattle.dsd_station.specs.Puts.{Goes}
+use Rattle.dsd_station.specs.Stops.{then, weaken, syncs_stops}
+use Rattle.dsd_station.specs.Told.{Told, Moment, Allows, LeavesAt}
+use Rattle.dsd_journal.specs.Devices.{KeepsTalk, Looks, Opens}
+use Rattle.dsd_journal.proofs.Looking.{keeps_then}
+
+pub goes_as : (call : Outcome → Call) (result : Result (Unit {0}) Failed) (old new : Told) → AddsAs call result old new → Goes old new
+goes_as call result old new (inl same) = record { more = []; calls = same ∙ sym (append-nil old.calls) }
+goes_as call result old new (inr one) = record { more = call one.0 ∷ []; calls = one.2 }
+
+pub sync_keeps : (done : Unit {0}) (old new : Told) → Syncs (Ok done) old new → KeepsTalk old new
+sync_keeps done old new s = record {
+  journal_name = s.ok.0.journal_name;
+  port_name = s.ok.0.port_name;
+  heard = s.ok.0.heard;
+  gone = ap (λ (m : Moment). m.gone) s.ok.1.now;
+  plan = s.ok.0.plan;
+  syncs = s.count.0;
+  goes = goes_as (λ (outcome : Outcome). Sync outcome) (Ok done) old new s.calls;
+}
+
+module _ (a b c : Told) (done : Unit {0}) (F : Type 0) (s : Syncs (Ok done) a b) (l : Looks F b c) where
+  abbrev pub Left : List ℕ → List ℕ → Type 0
+  Left image out = LeavesAt a.now image out ⊎ ((image ≡ a.journal) × (out ≡ a.now.gone))
+
+  behind : Allows (synced a.now a.journal) Left
+  behind image out left = inr (left.image_of, left.gone_of)
+
+  pub opens : Opens a c
+  opens = record {
+    keeps = keeps_then a b c (sync_keeps done a b s) l.keeps;
+    journal = l.untouched.journal ∙ s.ok.0.journal;
+    syncs = omega (arith, l.syncs, s.count.1);
+    stops = then (syncs_stops (Ok done) a b Left s (λ image out left. inl left) behind)
+        (weaken Left l.untouched.stops (λ image out left. subst (λ (m : Moment). Allows m Left) (sym s.ok.1.now) behind image out left));
+  }
+
+pub if_err : (T E : Type 0) (r : Result T E) (P : E → Type 0) (e : E) → IfErr r P → r ≡ Err e → P e
+if_err T E (Ok x) P e h is = absurd (no x e is)
+  where
+    no : (x : T) (e : E) → (let r : Result T E = Ok x in r) ≡ Err e → ⊥
+    no x e is = cc
+if_err T E (Err f) P e h is = subst P (same f e is) h
+  where
+    same : (f e : E) → (let r : Result T E = Err f in r) ≡ Err e → f ≡ e
+    same f e is = cc
