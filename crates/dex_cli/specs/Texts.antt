@@ -110,6 +110,9 @@ frames_text (frame ∷ more) = frame_line frame.0 frame.1 ++ (if is_refused fram
 unfoldable pub printed : Answer → List ℕ
 printed answers.Words = line (codes "WORDS")
 printed answers.SourceFault = line (codes "FAULT SOURCE")
+printed answers.StationFault = line (codes "FAULT STATION")
 printed (answers.Refused place reason) = line (both (codes "REFUSED") (both (decimal place) (reason_text reason)))
 printed (answers.Set summary) = summary_text summary
 printed (answers.Line captured) = frames_text (frames_in captured.items)
+printed answers.Formatted = line (codes "FORMATTED")
+printed (answers.NotEmpty size) = line (both (codes "NOT EMPTY") (decimal size))
