@@ -1,13 +1,12 @@
 -- Words and bytes leave one status.
-use Rattle.std.proofs.Common.{◌≡◌, ◌≢◌, ℕ, ◌+◌, ◌<◌, ◌≤◌, ◌⊎◌, inl, inr, List, [], ◌∷◌, ◌++◌, length, Option, Some, None, refl, sym, ap, ◌∙◌, subst, arith, append-nil, length-append, if◌then◌else◌}
+use Rattle.std.proofs.Common.{◌≡◌, ◌≢◌, ℕ, ◌<◌, ◌≤◌, ◌⊎◌, inl, inr, List, [], ◌++◌, length, Some, refl, sym, ap, ◌∙◌, subst, arith, append-nil, length-append, if◌then◌else◌}
 use Rattle.std.proofs.lemmas.Bool.{cases_lt}
 use Rattle.base_record_894.specs.BaseRecord.{BaseRecord}
 use Rattle.base_record_894.specs.RecordText.{Is894}
 use Rattle.segments.specs.declared.seal.Seal.{Seal}
-use Rattle.dex_cli.specs.FormatWords.{SpellsFormat}
-use Rattle.dex_cli.specs.Words.{check_words, Spells}
+use Rattle.dex_cli.specs.Words.{Spells}
 use Rattle.dex_cli.specs.Formatting.{Served, Formats}
-use Rattle.dex_cli.specs.Answers.{IsInput, ChecksSet, ChecksLine, Checks, Read, IsChecked, Does, MayAnswer, has_refused, status_of}
+use Rattle.dex_cli.specs.Answers.{IsInput, ChecksSet, ChecksLine, Read, IsChecked, Does, MayAnswer, has_refused, status_of}
 use Rattle.dex_cli.specs.declared.answer.Answer.{Answer}
 use Rattle.dex_cli.specs.declared.answer.Answer.TheVariants as answers
 use Rattle.dex_cli.specs.declared.job.TheConstants.{INPUT_BYTES}
@@ -16,7 +15,8 @@ use Rattle.dex_cli.specs.declared.words.Job.TheVariants as jobs
 use Rattle.dex_cli.specs.declared.words.CheckKind.{CheckKind}
 use Rattle.dex_cli.specs.declared.words.CheckKind.TheVariants as checks
 use Rattle.dex_cli.specs.declared.format_words.NewJournal.{NewJournal}
-use Rattle.dex_cli.specs.declared.status.TheConstants.{DONE, INPUT_REFUSED, JOURNAL_REFUSED}
+use Rattle.dex_cli.proofs.OneJob.{check_is_format, one_kind}
+use Rattle.dex_cli.specs.declared.status.TheConstants.{DONE, INPUT_REFUSED}
 
 -- ---- one input
 
@@ -34,15 +34,15 @@ no_fewer left after input is = let front : left ≡ input ++ after = is.taken in
 inputs : (left after after' input input' : List ℕ) → IsInput (Some left) (Some after) input → IsInput (Some left) (Some after') input'
     → (input ≡ input') ⊎ ((INPUT_BYTES < length input) × (INPUT_BYTES < length input'))
 inputs left after after' input input' one other = elim (cases_lt INPUT_BYTES (length input)) [
-    inl long ↦ elim (cases_lt INPUT_BYTES (length input')) [
-      inl long' ↦ inr (long, long')
+  | inl long ↦ elim (cases_lt INPUT_BYTES (length input')) [
+    | inl long' ↦ inr (long, long')
     | inr short' ↦ let whole = all_left left after' input' other short' in absurd (omega (arith, long, short', ap length whole, no_fewer left after input one))
-    ]
-  | inr short ↦ let whole = all_left left after input one short in elim (cases_lt INPUT_BYTES (length input')) [
-      inl long' ↦ absurd (omega (arith, long', short, ap length whole, no_fewer left after' input' other))
-    | inr short' ↦ inl (sym whole ∙ all_left left after' input' other short')
-    ]
   ]
+  | inr short ↦ let whole = all_left left after input one short in elim (cases_lt INPUT_BYTES (length input')) [
+    | inl long' ↦ absurd (omega (arith, long', short, ap length whole, no_fewer left after' input' other))
+    | inr short' ↦ inl (sym whole ∙ all_left left after' input' other short')
+  ]
+]
 
 -- ---- one status of each job to an input
 
@@ -88,15 +88,15 @@ bad_apart input (inr bad) short good = bad good.0 good.1 good.2
 
 set_one : (input : List ℕ) (a b : Answer) → ChecksSet input a → ChecksSet input b → status_of a ≡ status_of b
 set_one input a b c d = elim (set_verdict input a c) [
-    inl bad ↦ elim (set_verdict input b d) [ inl bad' ↦ bad.1 ∙ sym bad'.1 | inr good' ↦ absurd (bad_apart input bad.0 good'.0 good'.1) ]
+  | inl bad ↦ elim (set_verdict input b d) [ inl bad' ↦ bad.1 ∙ sym bad'.1 | inr good' ↦ absurd (bad_apart input bad.0 good'.0 good'.1) ]
   | inr good ↦ elim (set_verdict input b d) [ inl bad' ↦ absurd (bad_apart input bad'.0 good.0 good.1) | inr good' ↦ good.2 ∙ sym good'.2 ]
-  ]
+]
 
 line_one : (input : List ℕ) (a b : Answer) → ChecksLine input a → ChecksLine input b → status_of a ≡ status_of b
 line_one input a b c d = elim (line_verdict input a c) [
-    inl long ↦ long.1 ∙ sym (line_long input b long.0 d)
+  | inl long ↦ long.1 ∙ sym (line_long input b long.0 d)
   | inr short ↦ elim (line_verdict input b d) [ inl long' ↦ absurd (omega (arith, short.0, long'.0)) | inr short' ↦ short.1 ∙ sym short'.1 ]
-  ]
+]
 
 -- ---- one status of words
 
@@ -109,15 +109,15 @@ module _ (left after after' : List ℕ) (faults now now' : ℕ) (one other : Ser
 
   set_job : IsChecked checks.Set read a → IsChecked checks.Set read' b → status_of a ≡ status_of b
   set_job x y = elim (inputs left after after' x.input y.input x.read_is y.read_is) [
-      inl same ↦ set_one y.input a b (subst (λ (t : List ℕ). ChecksSet t a) same x.checks) y.checks
+    | inl same ↦ set_one y.input a b (subst (λ (t : List ℕ). ChecksSet t a) same x.checks) y.checks
     | inr long ↦ set_long x.input a long.0 x.checks ∙ sym (set_long y.input b long.1 y.checks)
-    ]
+  ]
 
   line_job : IsChecked checks.Line read a → IsChecked checks.Line read' b → status_of a ≡ status_of b
   line_job x y = elim (inputs left after after' x.input y.input x.read_is y.read_is) [
-      inl same ↦ line_one y.input a b (subst (λ (t : List ℕ). ChecksLine t a) same x.checks) y.checks
+    | inl same ↦ line_one y.input a b (subst (λ (t : List ℕ). ChecksLine t a) same x.checks) y.checks
     | inr long ↦ line_long x.input a long.0 x.checks ∙ sym (line_long y.input b long.1 y.checks)
-    ]
+  ]
 
   check_job : (kind : CheckKind) → Does (Unit {0}) (jobs.Check kind) read one a → Does (Unit {0}) (jobs.Check kind) read' other b → a ≢ answers.SourceFault → b ≢ answers.SourceFault → status_of a ≡ status_of b
   check_job kind (inl unread) q f g = absurd (f unread.answer_is)
@@ -157,24 +157,17 @@ format_job new new' one other (answers.NotEmpty size) answers.Formatted same p q
     absurd (omega (arith, ap length (same ∙ made.empty), full.size_is, full.some))
 format_job new new' one other (answers.NotEmpty size) (answers.NotEmpty size') same p q f g = refl
 
-set_is_line : (words : List (List ℕ)) → words ≡ check_words checks.Set → words ≡ check_words checks.Line → ⊥
-set_is_line words e f = let never = sym e ∙ f in cc
-
-check_is_format : (kind : CheckKind) (new : NewJournal) (words : List (List ℕ)) → words ≡ check_words kind → SpellsFormat new words → ⊥
-check_is_format checks.Set new words e f = let never = sym e ∙ f.words_are in cc
-check_is_format checks.Line new words e f = let never = sym e ∙ f.words_are in cc
-
 module _ (words : List (List ℕ)) (left after after' : List ℕ) (faults now now' : ℕ) (one other : Served) (a b : Answer) (f : a ≢ answers.SourceFault) (f' : a ≢ answers.StationFault)
     (g : b ≢ answers.SourceFault) (g' : b ≢ answers.StationFault) (same : one.before.journal ≡ other.before.journal) where
   by_jobs : (job job' : Job) → Spells job words → Spells job' words → Does (Unit {0}) job (read left after after' faults now now' one other a b) one a
       → Does (Unit {0}) job' (read' left after after' faults now now' one other a b) other b → status_of a ≡ status_of b
   by_jobs (jobs.Format new) (jobs.Format new') s t p q = format_job new new' one other a b same p.1 q.1 f' g'
-  by_jobs (jobs.Format new) (jobs.Check kind) s t p q = absurd (check_is_format kind new words t s)
-  by_jobs (jobs.Check kind) (jobs.Format new) s t p q = absurd (check_is_format kind new words s t)
+  by_jobs (jobs.Format new) (jobs.Check kind) s t p q = absurd (check_is_format kind new (sym t ∙ s.words_are))
+  by_jobs (jobs.Check kind) (jobs.Format new) s t p q = absurd (check_is_format kind new (sym s ∙ t.words_are))
   by_jobs (jobs.Check checks.Set) (jobs.Check checks.Set) s t p q = check_job left after after' faults now now' one other a b checks.Set p q f g
   by_jobs (jobs.Check checks.Line) (jobs.Check checks.Line) s t p q = check_job left after after' faults now now' one other a b checks.Line p q f g
-  by_jobs (jobs.Check checks.Set) (jobs.Check checks.Line) s t p q = absurd (set_is_line words s t)
-  by_jobs (jobs.Check checks.Line) (jobs.Check checks.Set) s t p q = absurd (set_is_line words t s)
+  by_jobs (jobs.Check checks.Set) (jobs.Check checks.Line) s t p q = let never = one_kind checks.Set checks.Line (sym s ∙ t) in cc
+  by_jobs (jobs.Check checks.Line) (jobs.Check checks.Set) s t p q = let never = one_kind checks.Line checks.Set (sym s ∙ t) in cc
 
   by_words : MayAnswer (Unit {0}) words (read left after after' faults now now' one other a b) one a → MayAnswer (Unit {0}) words (read' left after after' faults now now' one other a b) other b
       → status_of a ≡ status_of b

@@ -1,5 +1,5 @@
 -- Which answers may come of which words and input, and their statuses.
-use Rattle.std.specs.Prelude.{◌≡◌, ◌⊎◌, ℕ, Bool, if◌then◌else◌, ◌+◌, ◌<◌, ◌≤◌, List, ◌++◌, length, Option, Some}
+use Rattle.std.specs.Prelude.{◌≡◌, ◌⊎◌, ℕ, Bool, if◌then◌else◌, ◌<◌, ◌≤◌, List, length, Option, Some}
 use Rattle.std.specs.Io.KnownBytes.{Consumes, IsAtEnd}
 use Rattle.std.specs.List.{list_any}
 use Rattle.dsd_station.specs.Causes.{Rose}
@@ -105,6 +105,10 @@ pub record IsJobs (tells : Type 0) (words : List (List ℕ)) (read : Read) (serv
 -- Which answers may come.
 abbrev pub MayAnswer : Type 0 → List (List ℕ) → Read → Served → Answer → Type 0
 MayAnswer tells words read served answer = IsNoJob words read answer ⊎ IsJobs tells words read served answer
+
+-- the words are those of a check
+abbrev pub AsksCheck : List (List ℕ) → Type 0
+AsksCheck words = (kind : CheckKind) × Spells (jobs.Check kind) words
 
 -- the words are those of a `format`
 abbrev pub AsksFormat : List (List ℕ) → Type 0

@@ -4,7 +4,7 @@ ghost use Rattle.std.specs.Prelude.{◌≡◌, ◌≢◌, ◌⊎◌, ◌≤◌, 
 ghost use Rattle.std.specs.Io.KnownBytes.{Appends, Keeps};
 ghost use Rattle.dsd_station.specs.Causes.{Rose, WritesFront};
 ghost use Rattle.dex_cli.specs.Texts.{printed};
-ghost use Rattle.dex_cli.specs.Answers.{Read, Checks, IsUnread, IsChecked, AsksFormat, MayAnswer, status_of};
+ghost use Rattle.dex_cli.specs.Answers.{Read, Checks, IsUnread, IsChecked, AsksCheck, AsksFormat, MayAnswer, status_of};
 ghost use Rattle.dex_cli.specs.Formatting.{Served};
 ghost use Rattle.dex_cli.specs.declared.answer.Answer.{Answer as AnswerValue};
 
@@ -34,24 +34,25 @@ pub fn dex<S: Source, K: Sink, T: Station>(
     // Every status but two is that of an answer which may come, and all of its text is written.
     ensures told { result ≢ SINK_FAILED → result ≢ NO_MEMORY → (answer : AnswerValue)
         × MayAnswer T.tells (map string_bytes words.now)
-            (record { left = S.left source.old; after = S.left source.new; faults = S.faults source.old; faults_after = S.faults source.new })
-            (record { before = T.told station.old; after = T.told station.new; faults = T.faults station.old; faults_after = T.faults station.new }) answer
+        (record { left = S.left source.old; after = S.left source.new; faults = S.faults source.old; faults_after = S.faults source.new })
+        (record { before = T.told station.old; after = T.told station.new; faults = T.faults station.old; faults_after = T.faults station.new }) answer
         × (result ≡ status_of answer) × Appends (K.written sink.old) (K.written sink.new) (printed answer) }
 
     // The sink failed, and a first part of such a text is written.
     ensures sink { result ≡ SINK_FAILED → Rose (K.faults sink.old) (K.faults sink.new) × ((answer : AnswerValue)
         × MayAnswer T.tells (map string_bytes words.now)
-            (record { left = S.left source.old; after = S.left source.new; faults = S.faults source.old; faults_after = S.faults source.new })
-            (record { before = T.told station.old; after = T.told station.new; faults = T.faults station.old; faults_after = T.faults station.new }) answer
+        (record { left = S.left source.old; after = S.left source.new; faults = S.faults source.old; faults_after = S.faults source.new })
+        (record { before = T.told station.old; after = T.told station.new; faults = T.faults station.old; faults_after = T.faults station.new }) answer
         × WritesFront (K.written sink.old) (K.written sink.new) (printed answer)) }
 
     // Memory was wanting before anything was written, and before the station was used or behind such an answer.
     ensures memory { result ≡ NO_MEMORY → Keeps (K.written sink.old) (K.written sink.new) × ((station.new ≡ station.old) ⊎ ((answer : AnswerValue)
         × MayAnswer T.tells (map string_bytes words.now)
-            (record { left = S.left source.old; after = S.left source.new; faults = S.faults source.old; faults_after = S.faults source.new })
-            (record { before = T.told station.old; after = T.told station.new; faults = T.faults station.old; faults_after = T.faults station.new }) answer)) }
+        (record { left = S.left source.old; after = S.left source.new; faults = S.faults source.old; faults_after = S.faults source.new })
+        (record { before = T.told station.old; after = T.told station.new; faults = T.faults station.old; faults_after = T.faults station.new }) answer)) }
 
-    // No other job uses the station.
+    // A check alone reads the source, and a `format` alone uses the station.
+    ensures unread { (AsksCheck (map string_bytes words.now) → ⊥) → source.new ≡ source.old }
     ensures idle { (AsksFormat (map string_bytes words.now) → ⊥) → station.new ≡ station.old }
 
     ensures source_count { S.faults source.old ≤ S.faults source.new }
@@ -72,9 +73,10 @@ fn answer<S: Source, T: Station>(
     station: &mut T,
 ) -> Result<Answer, AllocError>
     ensures may { IfOk result (MayAnswer T.tells (map string_bytes words.now)
-            (record { left = S.left source.old; after = S.left source.new; faults = S.faults source.old; faults_after = S.faults source.new })
-            (record { before = T.told station.old; after = T.told station.new; faults = T.faults station.old; faults_after = T.faults station.new })) }
+        (record { left = S.left source.old; after = S.left source.new; faults = S.faults source.old; faults_after = S.faults source.new })
+        (record { before = T.told station.old; after = T.told station.new; faults = T.faults station.old; faults_after = T.faults station.new })) }
     ensures memory { OnErr result (station.new ≡ station.old) }
+    ensures unread { (AsksCheck (map string_bytes words.now) → ⊥) → source.new ≡ source.old }
     ensures idle { (AsksFormat (map string_bytes words.now) → ⊥) → station.new ≡ station.old }
     ensures later { S.faults source.old ≤ S.faults source.new }
     ensures station_count { T.faults station.old ≤ T.faults station.new }

@@ -1,10 +1,17 @@
-//! Laws of the statuses.
+//! Laws of the words and of the statuses.
 
 ghost use Rattle.std.specs.Prelude.{◌≡◌, ◌≢◌, ℕ, List, Some};
 ghost use Rattle.dex_cli.specs.Answers.{Read, MayAnswer, status_of};
 ghost use Rattle.dex_cli.specs.Formatting.{Served};
+ghost use Rattle.dex_cli.specs.Words.{Spells};
 ghost use Rattle.dex_cli.specs.declared.answer.Answer.{Answer};
 ghost use Rattle.dex_cli.specs.declared.answer.Answer.TheVariants.{SourceFault, StationFault};
+ghost use Rattle.dex_cli.specs.declared.words.Job.{Job};
+
+/// Words spell at most one job.
+pub fn one_job()
+    ensures { (words : List (List ℕ)) (one other : Job) → Spells one words → Spells other words → one ≡ other }
+{}
 
 /// For a source and a station that tell their bytes, the words and these bytes leave one status, faults of the source and
 /// of the station aside.

@@ -8,7 +8,9 @@ ghost use Rattle.dex_cli.specs.Texts.{line, both, reason_text, printed};
 use crate::answer::Answer;
 use crate::check_line::put_captured;
 use crate::reasons::put_reason;
-use crate::status::{DONE, INPUT_REFUSED, JOURNAL_REFUSED, SOURCE_FAILED, STATION_FAILED, WORDS_REFUSED};
+use crate::status::{
+    DONE, INPUT_REFUSED, JOURNAL_REFUSED, SOURCE_FAILED, STATION_FAILED, WORDS_REFUSED,
+};
 use crate::summary::put_summary;
 use segments::SetReason;
 use std::alloc::{AllocError, Global};
