@@ -47,7 +47,7 @@ pub record IsNotEmpty (new : NewJournal) (size : ℕ) (before after : Told) : Ty
   pub untouched : Untouched before after
   pub unfailed : Unfailed before after
 
--- A call failed. The journal is as it was, or it was empty and has some of the 28 bytes.
+-- A call failed. The journal is as it was, or it was empty and has at most 28 bytes, whichever they are.
 pub record IsFailed (new : NewJournal) (before after : Told) : Type 0 where
   pub silent : IsSilent before after
   pub attached : IsAttached new.journal after ⊎ StaysAttached before after
