@@ -1,9 +1,8 @@
 -- From the device calls of an append to the entries of its journal.
-use Rattle.std.proofs.Common.{◌≡◌, ℕ, ◌+◌, ◌<◌, List, [], ◌∷◌, ◌++◌, length, sym, ◌∙◌, ap, subst, arith, Ok, Err}
+use Rattle.std.proofs.Common.{◌≡◌, ℕ, ◌+◌, ◌<◌, List, [], ◌∷◌, ◌++◌, length, sym, ◌∙◌, ap, subst, arith, Result, Ok}
 use Rattle.dsd_station.specs.declared.failed.Failed.{Failed}
 use Rattle.dsd_station.specs.Stops.{weaken}
 use Rattle.dsd_station.specs.Told.{Told, EachStop}
-use Rattle.dsd_journal.specs.declared.append.AppendFault.TheVariants.{Station}
 use Rattle.dsd_journal.specs.declared.entry.Entry.{Entry}
 use Rattle.dsd_journal.specs.declared.limits.TheConstants.{JOURNAL_BYTES}
 use Rattle.dsd_journal.specs.Devices.{Appends}
@@ -26,18 +25,13 @@ module _ (before : View) (first : Entry) (more : List Entry) (gate : ℕ) (bytes
   stops : EachStop old new (λ image out. TornInTwo gate bytes old.journal image × (out ≡ old.now.gone)) → EachStop old new (λ image out. WithOrWithout before.header before.entries (first ∷ more) image × (out ≡ old.now.gone))
   stops s = weaken (λ image out. WithOrWithout before.header before.entries (first ∷ more) image × (out ≡ old.now.gone)) s (λ image out k. (left image k.0, k.1))
 
-  pub append_failed : (failed : Failed) (after : View) → Opened gate bytes (Err failed) old new → Appends before (first ∷ more) (Err Station) after old new
-  append_failed failed after o = record { keeps = o.keeps; syncs = o.syncs; stops = stops o.stops; ok = tt }
+  pub appends : (r : Result (Unit {0}) Failed) → Opened gate bytes r old new → Appends before (first ∷ more) old new
+  appends r o = record { keeps = o.keeps; syncs = o.syncs; stops = stops o.stops }
 
-  pub append_done : (done : Unit {0}) (after : View) → after.header ≡ before.header → after.entries ≡ before.entries ++ first ∷ more → Opened gate bytes (Ok done) old new → Appends before (first ∷ more) (Ok tt) after old new
-  append_done done after same_header same_entries o = record {
-    keeps = o.keeps;
-    syncs = o.syncs;
-    stops = stops o.stops;
-    ok = record {
-      holds = subst (λ h. Holds h after.entries new.journal) (sym same_header) (subst (λ (es : List Entry). Holds before.header es new.journal) (sym same_entries)
-          (holds_more before.header before.entries first more old.journal rests.holds each room_at new.journal
-          (o.ok.0 ∙ ap (λ (b : List ℕ). overwritten (overwritten old.journal (gate + 1) b) gate (open_gate ∷ [])) is_batch ∙ ap (λ (g : ℕ). overwritten (overwritten old.journal (g + 1) (batch_of first more)) g (open_gate ∷ [])) is_gate)));
-      synced = o.ok.1;
-    };
+  pub append_rests : (done : Unit {0}) (after : View) → after.header ≡ before.header → after.entries ≡ before.entries ++ first ∷ more → Opened gate bytes (Ok done) old new → Rests after new
+  append_rests done after same_header same_entries o = record {
+    holds = subst (λ h. Holds h after.entries new.journal) (sym same_header) (subst (λ (es : List Entry). Holds before.header es new.journal) (sym same_entries)
+        (holds_more before.header before.entries first more old.journal rests.holds each room_at new.journal
+        (o.ok.0 ∙ ap (λ (b : List ℕ). overwritten (overwritten old.journal (gate + 1) b) gate (open_gate ∷ [])) is_batch ∙ ap (λ (g : ℕ). overwritten (overwritten old.journal (g + 1) (batch_of first more)) g (open_gate ∷ [])) is_gate)));
+    synced = o.ok.1;
   }

@@ -75,25 +75,37 @@ module _ (h : Header) (is : IsHeader h) where
   behind_front : (i : ℕ) → 6 ≤ i → get_or (header_bytes h) i 0 ≡ get_or (h.own ++ (h.peer ++ 10 ∷ [])) (i - 6) 0
   behind_front i low = get_or-append_right (take 6 (header_bytes h)) (h.own ++ (h.peer ++ 10 ∷ [])) 6 i 0 refl low
 
+  own_at : (i : ℕ) → 6 ≤ i → i < 16 → get_or (header_bytes h) i 0 ≡ get_or h.own (i - 6) 0
+  own_at i low high = behind_front i low ∙ get_or_append_left h.own (h.peer ++ 10 ∷ []) 0 (i - 6) (omega (arith, high, low, is.own.ten))
+
+  behind_own : (i : ℕ) → 16 ≤ i → get_or (header_bytes h) i 0 ≡ get_or (h.peer ++ 10 ∷ []) (i - 6 - 10) 0
+  behind_own i low = behind_front i (omega (arith, low)) ∙ get_or-append_right h.own (h.peer ++ 10 ∷ []) 10 (i - 6) 0 is.own.ten (omega (arith, low))
+
+  peer_at : (i : ℕ) → 16 ≤ i → i < 26 → get_or (header_bytes h) i 0 ≡ get_or h.peer (i - 6 - 10) 0
+  peer_at i low high = behind_own i low ∙ get_or_append_left h.peer (10 ∷ []) 0 (i - 6 - 10) (omega (arith, high, low, is.peer.ten))
+
+  end_at : (i : ℕ) → i ≡ 26 → get_or (header_bytes h) i 0 ≡ 10
+  end_at i last =
+      let zero_at : i - 6 - 10 - 10 ≡ 0 = omega (arith, last) in
+      behind_own i (omega (arith, last)) ∙ get_or-append_right h.peer (10 ∷ []) 10 (i - 6 - 10) 0 is.peer.ten (omega (arith, last)) ∙ ap (λ (k : ℕ). get_or (10 ∷ []) k 0) zero_at
+
+  fits_own : (i : ℕ) → 6 ≤ i → i < 16 → header_fits i (get_or (header_bytes h) i 0) ≡ true
+  fits_own i low high = subst (λ (b : ℕ). header_fits i b ≡ true) (sym (own_at i low high))
+      (fits_id i (get_or h.own (i - 6) 0) low (omega (arith, high)) (id_byte h.own is.own.text (i - 6) (omega (arith, high, low, is.own.ten))))
+
+  fits_peer : (i : ℕ) → 16 ≤ i → i < 26 → header_fits i (get_or (header_bytes h) i 0) ≡ true
+  fits_peer i low high = subst (λ (b : ℕ). header_fits i b ≡ true) (sym (peer_at i low high))
+      (fits_id i (get_or h.peer (i - 6 - 10) 0) (omega (arith, low)) high (id_byte h.peer is.peer.text (i - 6 - 10) (omega (arith, high, low, is.peer.ten))))
+
   header_fits_at : (i : ℕ) → i < 27 → header_fits i (get_or (header_bytes h) i 0) ≡ true
   header_fits_at i less = elim (cases_lt i 6) [
     | inl front ↦ fits_front i front
     | inr low ↦ elim (cases_lt i 16) [
-      | inl own ↦ (let j : i - 6 < length h.own = omega (arith, own, low, is.own.ten) in
-          let at : get_or (header_bytes h) i 0 ≡ get_or h.own (i - 6) 0 = behind_front i low ∙ get_or_append_left h.own (h.peer ++ 10 ∷ []) 0 (i - 6) j in
-          let high : i < 26 = omega (arith, own) in
-          subst (λ (b : ℕ). header_fits i b ≡ true) (sym at) (fits_id i (get_or h.own (i - 6) 0) low high (id_byte h.own is.own.text (i - 6) j)))
-      | inr past ↦ (let shift : 10 ≤ i - 6 = omega (arith, past) in
-          let at : get_or (header_bytes h) i 0 ≡ get_or (h.peer ++ 10 ∷ []) (i - 6 - 10) 0 = behind_front i low ∙ get_or-append_right h.own (h.peer ++ 10 ∷ []) 10 (i - 6) 0 is.own.ten shift in
-          elim (cases_lt i 26) [
-            | inl high ↦ (let j : i - 6 - 10 < length h.peer = omega (arith, past, high, is.peer.ten) in
-                subst (λ (b : ℕ). header_fits i b ≡ true) (sym (at ∙ get_or_append_left h.peer (10 ∷ []) 0 (i - 6 - 10) j)) (fits_id i (get_or h.peer (i - 6 - 10) 0) low high (id_byte h.peer is.peer.text (i - 6 - 10) j)))
-            | inr last ↦ (let end : i ≡ 26 = omega (arith, last, less) in
-                let shift2 : 10 ≤ i - 6 - 10 = omega (arith, last) in
-                let zero_at : i - 6 - 10 - 10 ≡ 0 = omega (arith, end) in
-                let lf : get_or (10 ∷ []) (i - 6 - 10 - 10) 0 ≡ 10 = ap (λ (k : ℕ). get_or (10 ∷ []) k 0) zero_at in
-                fits_end i (get_or (header_bytes h) i 0) end (at ∙ get_or-append_right h.peer (10 ∷ []) 10 (i - 6 - 10) 0 is.peer.ten shift2 ∙ lf))
-          ])
+      | inl own ↦ fits_own i low own
+      | inr past ↦ elim (cases_lt i 26) [
+        | inl peer ↦ fits_peer i past peer
+        | inr last ↦ (let end : i ≡ 26 = omega (arith, last, less) in fits_end i (get_or (header_bytes h) i 0) end (end_at i end))
+      ]
     ]
   ]
 
@@ -139,30 +151,27 @@ module _ (bytes : List ℕ) (long : length bytes ≡ 27) (fits : FitsBelow 27 by
   front_at (suc (suc (suc (suc (suc zero))))) less = letter_fits (get_or bytes 5 0) (fits 5 (omega arith))
   front_at (suc (suc (suc (suc (suc (suc i)))))) less = absurd (omega (arith, less))
 
+  own_is : (i : ℕ) → 6 ≤ i → i < 16 → get_or (header_bytes (header_of bytes)) i 0 ≡ get_or bytes i 0
+  own_is i low high =
+      let back : 6 + (i - 6) ≡ i = omega (arith, low) in
+      own_at (header_of bytes) header_of_is i low high ∙ piece 6 (i - 6) (omega (arith, high, low)) (omega arith) ∙ ap (λ (n : ℕ). get_or bytes n 0) back
+
+  peer_is : (i : ℕ) → 16 ≤ i → i < 26 → get_or (header_bytes (header_of bytes)) i 0 ≡ get_or bytes i 0
+  peer_is i low high =
+      let back : 16 + (i - 6 - 10) ≡ i = omega (arith, low) in
+      peer_at (header_of bytes) header_of_is i low high ∙ piece 16 (i - 6 - 10) (omega (arith, high, low)) (omega arith) ∙ ap (λ (n : ℕ). get_or bytes n 0) back
+
   all_at : (i : ℕ) → i < length (header_bytes (header_of bytes)) → get_or (header_bytes (header_of bytes)) i 0 ≡ get_or bytes i 0
   all_at i inside =
-      let h : Header = header_of bytes in
-      let less : i < 27 = omega (arith, inside, header_length h header_of_is) in
+      let less : i < 27 = omega (arith, inside, header_length (header_of bytes) header_of_is) in
       elim (cases_lt i 6) [
         | inl front ↦ front_at i front
         | inr low ↦ elim (cases_lt i 16) [
-          | inl own ↦ (let j : i - 6 < 10 = omega (arith, own, low) in
-              let k : i - 6 < length h.own = omega (arith, j, header_of_is.own.ten) in
-              let back : 6 + (i - 6) ≡ i = omega (arith, low) in
-              behind_front h header_of_is i low ∙ get_or_append_left h.own (h.peer ++ 10 ∷ []) 0 (i - 6) k ∙ piece 6 (i - 6) j (omega arith) ∙ ap (λ (n : ℕ). get_or bytes n 0) back)
-          | inr past ↦ (let shift : 10 ≤ i - 6 = omega (arith, past) in
-              let at : get_or (header_bytes h) i 0 ≡ get_or (h.peer ++ 10 ∷ []) (i - 6 - 10) 0 = behind_front h header_of_is i low ∙ get_or-append_right h.own (h.peer ++ 10 ∷ []) 10 (i - 6) 0 header_of_is.own.ten shift in
-              elim (cases_lt i 26) [
-                | inl high ↦ (let j : i - 6 - 10 < 10 = omega (arith, past, high) in
-                    let k : i - 6 - 10 < length h.peer = omega (arith, j, header_of_is.peer.ten) in
-                    let back : 16 + (i - 6 - 10) ≡ i = omega (arith, past) in
-                    at ∙ get_or_append_left h.peer (10 ∷ []) 0 (i - 6 - 10) k ∙ piece 16 (i - 6 - 10) j (omega arith) ∙ ap (λ (n : ℕ). get_or bytes n 0) back)
-                | inr last ↦ (let end : i ≡ 26 = omega (arith, last, less) in
-                    let shift2 : 10 ≤ i - 6 - 10 = omega (arith, last) in
-                    let zero_at : i - 6 - 10 - 10 ≡ 0 = omega (arith, end) in
-                    let lf : get_or (10 ∷ []) (i - 6 - 10 - 10) 0 ≡ 10 = ap (λ (k : ℕ). get_or (10 ∷ []) k 0) zero_at in
-                    at ∙ get_or-append_right h.peer (10 ∷ []) 10 (i - 6 - 10) 0 header_of_is.peer.ten shift2 ∙ lf ∙ sym (end_fits i (get_or bytes i 0) end (fits i less)))
-              ])
+          | inl own ↦ own_is i low own
+          | inr past ↦ elim (cases_lt i 26) [
+            | inl peer ↦ peer_is i past peer
+            | inr last ↦ (let end : i ≡ 26 = omega (arith, last, less) in end_at (header_of bytes) header_of_is i end ∙ sym (end_fits i (get_or bytes i 0) end (fits i less)))
+          ]
         ]
       ]
 

@@ -6,7 +6,6 @@ use Rattle.dsd_station.specs.Disk.{Torn}
 use Rattle.dsd_station.specs.Failures.{failed_in}
 use Rattle.dsd_station.specs.Puts.{Goes}
 use Rattle.dsd_station.specs.Told.{Told, EachStop, IsSynced, LeavesAt}
-use Rattle.dsd_journal.specs.declared.append.AppendFault.{AppendFault}
 use Rattle.dsd_journal.specs.declared.opening.OpenFault.{OpenFault}
 use Rattle.dsd_journal.specs.declared.opening.OpenFault.TheVariants.{Station as NoStation}
 use Rattle.dsd_journal.specs.declared.formatting.FormatFault.{FormatFault}
@@ -15,7 +14,7 @@ use Rattle.dsd_journal.specs.declared.entry.Entry.{Entry}
 use Rattle.dsd_journal.specs.declared.header.Header.{Header}
 use Rattle.dsd_journal.specs.Headers.{formatted, IsHeader}
 use Rattle.dsd_journal.specs.JournalImage.{Holds}
-use Rattle.dsd_journal.specs.Journals.{View, Rests, WithOrWithout}
+use Rattle.dsd_journal.specs.Journals.{View, WithOrWithout}
 
 -- Whatever a call answers: the two names, the answers of `listen`, the bytes gone and the plan are as they were, no count of syncs
 -- falls, and the record is the old one with calls behind it.
@@ -73,10 +72,8 @@ pub record Formats (header : Header) (result : Result (Unit {0}) FormatFault) (o
   pub station : result ≡ Err Station → Untouched old new ⊎ ((old.journal ≡ []) × Torn 0 28 [] new.journal)
   pub unfailed : (result ≡ Err Station) ⊎ Unfailed old new
 
--- An append of these entries: each stop since its start leaves the entries before, or these and the new ones. After an Ok it leaves the new
--- ones too.
-pub record Appends (before : View) (added : List Entry) (result : Result (Unit {0}) AppendFault) (after : View) (old new : Told) : Type 0 where
+-- An append of these entries: each stop since its start leaves the entries before, or these and the new ones.
+pub record Appends (before : View) (added : List Entry) (old new : Told) : Type 0 where
   pub keeps : KeepsTalk old new
   pub syncs : new.syncs ≤ old.syncs + 2
   pub stops : EachStop old new (λ image out. WithOrWithout before.header before.entries added image × (out ≡ old.now.gone))
-  pub ok : OnOk result (Rests after new)

@@ -7,7 +7,7 @@ ghost use Rattle.dsd_journal.specs.Devices.{Appends};
 ghost use Rattle.dsd_journal.specs.JournalImage.{gate_place, IsPayloadLength};
 ghost use Rattle.dsd_journal.specs.Journals.{with_entry, with_spare, without_work, Rests};
 
-use crate::append::AppendFault;
+use crate::append_fault::AppendFault;
 use crate::batch::{add, fill};
 use crate::entries::Entries;
 use crate::entry::{Entry, EntryKind};
@@ -49,8 +49,8 @@ impl Model for Journal {
 }
 
 impl Journal {
-    // A journal that has just been read.
-    pub(crate) fn of(alloc: Global, header: Header, entries: Entries) -> Journal
+    // A journal of these entries, with no room for the next one yet.
+    pub(crate) fn holding(alloc: Global, header: Header, entries: Entries) -> Journal
         ensures header { result.header ≡ header }
         ensures entries { result.entries ≡ entries.list }
         ensures spare { result.spare ≡ 0 }
@@ -159,14 +159,16 @@ impl Journal {
         requires length { IsPayloadLength (length payload.now) }
         requires rests { T.tells → Rests self.old (T.told station.old) }
         ensures later { T.faults station.old ≤ T.faults station.new }
+        ensures ok { OnOk result (self.new ≡ with_entry self.old (record { kind = kind; payload = payload.now })) }
         // `Full` comes exactly where the journal would be too long, and then nothing has changed.
         ensures full { JOURNAL_BYTES < gate_place self.old.entries + 7 + length payload.now
             → (result ≡ Err (AppendFault.Full (gate_place self.old.entries + 7 + length payload.now))) × (self.new ≡ self.old) × (station.new ≡ station.old) }
-        // Else the entry is added, or the station failed.
+        // Else it is an `Ok`, or the station failed, and then the journal works no more.
         ensures fits { gate_place self.old.entries + 7 + length payload.now ≤ JOURNAL_BYTES
-            → ((result ≡ Ok tt) × (self.new ≡ with_entry self.old (record { kind = kind; payload = payload.now })))
-            ⊎ ((result ≡ Err AppendFault.Station) × (self.new ≡ without_work self.old) × Rose (T.faults station.old) (T.faults station.new)) }
-        ensures told { T.tells → Appends self.old ((record { kind = kind; payload = payload.now }) ∷ []) result self.new (T.told station.old) (T.told station.new) }
+            → (result ≡ Ok tt) ⊎ ((result ≡ Err AppendFault.Station) × (self.new ≡ without_work self.old) × Rose (T.faults station.old) (T.faults station.new)) }
+        // After an `Ok` each stop leaves the entries with the new one.
+        ensures rests { T.tells → OnOk result (Rests self.new (T.told station.new)) }
+        ensures told { T.tells → Appends self.old ((record { kind = kind; payload = payload.now }) ∷ []) (T.told station.old) (T.told station.new) }
         ensures stays { T.tells → ReadMayStay (T.told station.new) }
     {
         let length = self.entries.gate() + 7 + payload.len() as u64;

@@ -77,6 +77,6 @@ fn open_image<T: Station>(alloc: Global, station: &mut T) -> Result<Journal, Ope
     };
     match read_journal(alloc, station, &mut piece) {
         Err(fault) => Err(fault),
-        Ok(reading) => Ok(Journal::of(alloc, reading.header, reading.entries)),
+        Ok(reading) => Ok(Journal::holding(alloc, reading.header, reading.entries)),
     }
 }

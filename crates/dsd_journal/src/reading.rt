@@ -62,6 +62,7 @@ fn take_front(alloc: Global, entries: &mut Entries, bytes: &mut Vec<u8>) -> Resu
     let shut = is_shut(rest);
     let taken = bytes.len() - rest.len();
     cut_front(bytes, taken);
+    // What holds of the gate's place is known from here.
     let _ = entries.gate();
     Ok(shut)
 }
