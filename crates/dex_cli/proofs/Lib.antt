@@ -1,2 +1,4 @@
 pub mod Two
+pub mod Five
+pub mod OneJob
 pub mod OneStatus

@@ -1,17 +1,24 @@
 -- Words and bytes leave one status.
-use Rattle.std.proofs.Common.{◌≡◌, ◌≢◌, ℕ, ◌+◌, ◌<◌, ◌≤◌, ◌⊎◌, inl, inr, List, [], ◌∷◌, ◌++◌, length, Option, Some, None, refl, sym, ap, ◌∙◌, subst, arith, append-nil, length-append, if◌then◌else◌}
+use Rattle.std.proofs.Common.{◌≡◌, ◌≢◌, ℕ, ◌<◌, ◌≤◌, ◌⊎◌, inl, inr, List, [], ◌++◌, length, Some, refl, sym, ap, ◌∙◌, subst, arith, append-nil, length-append, if◌then◌else◌}
+use Rattle.std.proofs.lemmas.Bool.{cases_lt}
+use Rattle.base_record_894.specs.BaseRecord.{BaseRecord}
 use Rattle.base_record_894.specs.RecordText.{Is894}
-use Rattle.dex_cli.specs.Words.{words_of}
-use Rattle.dex_cli.specs.Answers.{IsInput, IsTooLong, IsRefused, ChecksSet, Answered, ChecksLine, Read, IsJobs, MayAnswer, has_refused, status_of}
+use Rattle.segments.specs.declared.seal.Seal.{Seal}
+use Rattle.dex_cli.specs.Words.{Spells}
+use Rattle.dex_cli.specs.Formatting.{Served, Formats}
+use Rattle.dex_cli.specs.Answers.{IsInput, ChecksSet, ChecksLine, Read, IsChecked, Does, MayAnswer, has_refused, status_of}
 use Rattle.dex_cli.specs.declared.answer.Answer.{Answer}
 use Rattle.dex_cli.specs.declared.answer.Answer.TheVariants as answers
 use Rattle.dex_cli.specs.declared.job.TheConstants.{INPUT_BYTES}
-use Rattle.dex_cli.specs.declared.summary.SetSummary.{SetSummary}
 use Rattle.dex_cli.specs.declared.words.Job.{Job}
 use Rattle.dex_cli.specs.declared.words.Job.TheVariants as jobs
+use Rattle.dex_cli.specs.declared.words.CheckKind.{CheckKind}
 use Rattle.dex_cli.specs.declared.words.CheckKind.TheVariants as checks
+use Rattle.dex_cli.specs.declared.format_words.NewJournal.{NewJournal}
+use Rattle.dex_cli.proofs.OneJob.{check_is_format, one_kind}
 use Rattle.dex_cli.specs.declared.status.TheConstants.{DONE, INPUT_REFUSED}
-use Rattle.segments.specs.declared.set_fault.SetReason.{SetReason}
+
+-- ---- one input
 
 -- an input that is not too long is all that was left
 all_left : (left after input : List ℕ) → IsInput (Some left) (Some after) input → length input ≤ INPUT_BYTES → left ≡ input
@@ -19,69 +26,159 @@ all_left left after input is short =
     let end : after ≡ [] = is.whole short in
     is.taken ∙ ap (λ (t : List ℕ). input ++ t) end ∙ append-nil input
 
--- one input is not both a record and refused
-apart : (left after after' input input' : List ℕ) (place : ℕ) (reason : SetReason) (summary : SetSummary) → IsInput (Some left) (Some after) input → IsInput (Some left) (Some after') input'
-    → ChecksSet input (answers.Refused place reason) → ChecksSet input' (answers.Set summary) → ⊥
-apart left after after' input input' place reason summary one other (inl long) (short, is) =
-    let whole = all_left left after' input' other short in
-    let front : left ≡ input ++ after = one.taken in
-    let above = long.long in
-    absurd (omega (arith, ap length whole, ap length front, length-append input after, above, short))
-apart left after after' input input' place reason summary one other (inr refused) (short, is) =
-    let same : input' ≡ input = sym (all_left left after' input' other short) ∙ all_left left after input one refused.short in
-    refused.none summary.base summary.seal (subst (λ (t : List ℕ). Is894 summary.base summary.seal t) same is)
+-- the bytes left are no fewer than those of an input
+no_fewer : (left after input : List ℕ) → IsInput (Some left) (Some after) input → length input ≤ length left
+no_fewer left after input is = let front : left ≡ input ++ after = is.taken in omega (arith, ap length front, length-append input after)
 
--- one input is not both captured bytes and too long for them
-captured_apart : (left after after' input input' : List ℕ) (place : ℕ) (reason : SetReason) → IsInput (Some left) (Some after) input → IsInput (Some left) (Some after') input'
-    → IsTooLong input place reason → length input' ≤ INPUT_BYTES → ⊥
-captured_apart left after after' input input' place reason one other long short =
-    let whole = all_left left after' input' other short in
-    let front : left ≡ input ++ after = one.taken in
-    let above = long.long in
-    absurd (omega (arith, ap length whole, ap length front, length-append input after, above, short))
+-- two inputs of the same bytes are the same, or both are too long
+inputs : (left after after' input input' : List ℕ) → IsInput (Some left) (Some after) input → IsInput (Some left) (Some after') input'
+    → (input ≡ input') ⊎ ((INPUT_BYTES < length input) × (INPUT_BYTES < length input'))
+inputs left after after' input input' one other = elim (cases_lt INPUT_BYTES (length input)) [
+  | inl long ↦ elim (cases_lt INPUT_BYTES (length input')) [
+    | inl long' ↦ inr (long, long')
+    | inr short' ↦ let whole = all_left left after' input' other short' in absurd (omega (arith, long, short', ap length whole, no_fewer left after input one))
+  ]
+  | inr short ↦ let whole = all_left left after input one short in elim (cases_lt INPUT_BYTES (length input')) [
+    | inl long' ↦ absurd (omega (arith, long', short, ap length whole, no_fewer left after' input' other))
+    | inr short' ↦ inl (sym whole ∙ all_left left after' input' other short')
+  ]
+]
 
-set_words : (words : List (List ℕ)) → words ≡ words_of (jobs.Check checks.Set) → words ≡ words_of (jobs.Check checks.Line) → ⊥
-set_words words e f = let never = sym e ∙ f in cc
+-- ---- one status of each job to an input
 
-pub one_status : (words : List (List ℕ)) (left after after' : List ℕ) (faults now now' : ℕ) (a b : Answer) → a ≢ answers.SourceFault → b ≢ answers.SourceFault
-    → MayAnswer words (record { left = Some left; after = Some after; faults = faults; faults_after = now }) a
-    → MayAnswer words (record { left = Some left; after = Some after'; faults = faults; faults_after = now' }) b
+abbrev IsBad : List ℕ → Type 0
+IsBad input = (base : BaseRecord) (seal : Seal) → Is894 base seal input → ⊥
+
+abbrev IsGood : List ℕ → Type 0
+IsGood input = (base : BaseRecord) × (seal : Seal) × Is894 base seal input
+
+set_verdict : (input : List ℕ) (a : Answer) → ChecksSet input a
+    → (((INPUT_BYTES < length input) ⊎ IsBad input) × (status_of a ≡ INPUT_REFUSED)) ⊎ ((length input ≤ INPUT_BYTES) × IsGood input × (status_of a ≡ DONE))
+set_verdict input answers.Words c = absurd c
+set_verdict input answers.SourceFault c = absurd c
+set_verdict input answers.StationFault c = absurd c
+set_verdict input (answers.Refused place reason) (inl long) = inl (inl long.long, refl)
+set_verdict input (answers.Refused place reason) (inr refused) = inl (inr refused.none, refl)
+set_verdict input (answers.Set summary) (short, is) = inr (short, (summary.base, summary.seal, is), refl)
+set_verdict input (answers.Line captured) c = absurd c
+set_verdict input answers.Formatted c = absurd c
+set_verdict input (answers.NotEmpty size) c = absurd c
+
+line_verdict : (input : List ℕ) (a : Answer) → ChecksLine input a
+    → ((INPUT_BYTES < length input) × (status_of a ≡ INPUT_REFUSED)) ⊎ ((length input ≤ INPUT_BYTES) × (status_of a ≡ (if has_refused input then INPUT_REFUSED else DONE)))
+line_verdict input answers.Words c = absurd c
+line_verdict input answers.SourceFault c = absurd c
+line_verdict input answers.StationFault c = absurd c
+line_verdict input (answers.Refused place reason) long = inl (long.long, refl)
+line_verdict input (answers.Set summary) c = absurd c
+line_verdict input (answers.Line captured) (short, same) = inr (short, ap (λ (bytes : List ℕ). if has_refused bytes then INPUT_REFUSED else DONE) same)
+line_verdict input answers.Formatted c = absurd c
+line_verdict input (answers.NotEmpty size) c = absurd c
+
+-- an input that is too long is refused
+set_long : (input : List ℕ) (a : Answer) → INPUT_BYTES < length input → ChecksSet input a → status_of a ≡ INPUT_REFUSED
+set_long input a long c = elim (set_verdict input a c) [ inl bad ↦ bad.1 | inr good ↦ absurd (omega (arith, long, good.0)) ]
+
+line_long : (input : List ℕ) (a : Answer) → INPUT_BYTES < length input → ChecksLine input a → status_of a ≡ INPUT_REFUSED
+line_long input a long c = elim (line_verdict input a c) [ inl bad ↦ bad.1 | inr good ↦ absurd (omega (arith, long, good.0)) ]
+
+bad_apart : (input : List ℕ) → (INPUT_BYTES < length input) ⊎ IsBad input → length input ≤ INPUT_BYTES → IsGood input → ⊥
+bad_apart input (inl long) short good = absurd (omega (arith, long, short))
+bad_apart input (inr bad) short good = bad good.0 good.1 good.2
+
+set_one : (input : List ℕ) (a b : Answer) → ChecksSet input a → ChecksSet input b → status_of a ≡ status_of b
+set_one input a b c d = elim (set_verdict input a c) [
+  | inl bad ↦ elim (set_verdict input b d) [ inl bad' ↦ bad.1 ∙ sym bad'.1 | inr good' ↦ absurd (bad_apart input bad.0 good'.0 good'.1) ]
+  | inr good ↦ elim (set_verdict input b d) [ inl bad' ↦ absurd (bad_apart input bad'.0 good.0 good.1) | inr good' ↦ good.2 ∙ sym good'.2 ]
+]
+
+line_one : (input : List ℕ) (a b : Answer) → ChecksLine input a → ChecksLine input b → status_of a ≡ status_of b
+line_one input a b c d = elim (line_verdict input a c) [
+  | inl long ↦ long.1 ∙ sym (line_long input b long.0 d)
+  | inr short ↦ elim (line_verdict input b d) [ inl long' ↦ absurd (omega (arith, short.0, long'.0)) | inr short' ↦ short.1 ∙ sym short'.1 ]
+]
+
+-- ---- one status of words
+
+module _ (left after after' : List ℕ) (faults now now' : ℕ) (one other : Served) (a b : Answer) where
+  abbrev read : Read
+  read = record { left = Some left; after = Some after; faults = faults; faults_after = now }
+
+  abbrev read' : Read
+  read' = record { left = Some left; after = Some after'; faults = faults; faults_after = now' }
+
+  set_job : IsChecked checks.Set read a → IsChecked checks.Set read' b → status_of a ≡ status_of b
+  set_job x y = elim (inputs left after after' x.input y.input x.read_is y.read_is) [
+    | inl same ↦ set_one y.input a b (subst (λ (t : List ℕ). ChecksSet t a) same x.checks) y.checks
+    | inr long ↦ set_long x.input a long.0 x.checks ∙ sym (set_long y.input b long.1 y.checks)
+  ]
+
+  line_job : IsChecked checks.Line read a → IsChecked checks.Line read' b → status_of a ≡ status_of b
+  line_job x y = elim (inputs left after after' x.input y.input x.read_is y.read_is) [
+    | inl same ↦ line_one y.input a b (subst (λ (t : List ℕ). ChecksLine t a) same x.checks) y.checks
+    | inr long ↦ line_long x.input a long.0 x.checks ∙ sym (line_long y.input b long.1 y.checks)
+  ]
+
+  check_job : (kind : CheckKind) → Does (Unit {0}) (jobs.Check kind) read one a → Does (Unit {0}) (jobs.Check kind) read' other b → a ≢ answers.SourceFault → b ≢ answers.SourceFault → status_of a ≡ status_of b
+  check_job kind (inl unread) q f g = absurd (f unread.answer_is)
+  check_job kind (inr x) (inl unread) f g = absurd (g unread.answer_is)
+  check_job checks.Set (inr x) (inr y) f g = set_job x y
+  check_job checks.Line (inr x) (inr y) f g = line_job x y
+
+-- an empty journal is made, and any other is not
+format_job : (new new' : NewJournal) (one other : Served) (a b : Answer) → one.before.journal ≡ other.before.journal → Formats (Unit {0}) new one a → Formats (Unit {0}) new' other b
+    → a ≢ answers.StationFault → b ≢ answers.StationFault → status_of a ≡ status_of b
+format_job new new' one other answers.Words b same p q f g = absurd p
+format_job new new' one other answers.SourceFault b same p q f g = absurd p
+format_job new new' one other answers.StationFault b same p q f g = absurd (f refl)
+format_job new new' one other (answers.Refused place reason) b same p q f g = absurd p
+format_job new new' one other (answers.Set summary) b same p q f g = absurd p
+format_job new new' one other (answers.Line captured) b same p q f g = absurd p
+format_job new new' one other answers.Formatted answers.Words same p q f g = absurd q
+format_job new new' one other answers.Formatted answers.SourceFault same p q f g = absurd q
+format_job new new' one other answers.Formatted answers.StationFault same p q f g = absurd (g refl)
+format_job new new' one other answers.Formatted (answers.Refused place reason) same p q f g = absurd q
+format_job new new' one other answers.Formatted (answers.Set summary) same p q f g = absurd q
+format_job new new' one other answers.Formatted (answers.Line captured) same p q f g = absurd q
+format_job new new' one other answers.Formatted answers.Formatted same p q f g = refl
+format_job new new' one other answers.Formatted (answers.NotEmpty size) same p q f g =
+    let made = p tt in
+    let full = q tt in
+    absurd (omega (arith, ap length (sym same ∙ made.empty), full.size_is, full.some))
+format_job new new' one other (answers.NotEmpty size) answers.Words same p q f g = absurd q
+format_job new new' one other (answers.NotEmpty size) answers.SourceFault same p q f g = absurd q
+format_job new new' one other (answers.NotEmpty size) answers.StationFault same p q f g = absurd (g refl)
+format_job new new' one other (answers.NotEmpty size) (answers.Refused place reason) same p q f g = absurd q
+format_job new new' one other (answers.NotEmpty size) (answers.Set summary) same p q f g = absurd q
+format_job new new' one other (answers.NotEmpty size) (answers.Line captured) same p q f g = absurd q
+format_job new new' one other (answers.NotEmpty size) answers.Formatted same p q f g =
+    let made = q tt in
+    let full = p tt in
+    absurd (omega (arith, ap length (same ∙ made.empty), full.size_is, full.some))
+format_job new new' one other (answers.NotEmpty size) (answers.NotEmpty size') same p q f g = refl
+
+module _ (words : List (List ℕ)) (left after after' : List ℕ) (faults now now' : ℕ) (one other : Served) (a b : Answer) (f : a ≢ answers.SourceFault) (f' : a ≢ answers.StationFault)
+    (g : b ≢ answers.SourceFault) (g' : b ≢ answers.StationFault) (same : one.before.journal ≡ other.before.journal) where
+  by_jobs : (job job' : Job) → Spells job words → Spells job' words → Does (Unit {0}) job (read left after after' faults now now' one other a b) one a
+      → Does (Unit {0}) job' (read' left after after' faults now now' one other a b) other b → status_of a ≡ status_of b
+  by_jobs (jobs.Format new) (jobs.Format new') s t p q = format_job new new' one other a b same p.1 q.1 f' g'
+  by_jobs (jobs.Format new) (jobs.Check kind) s t p q = absurd (check_is_format kind new (sym t ∙ s.words_are))
+  by_jobs (jobs.Check kind) (jobs.Format new) s t p q = absurd (check_is_format kind new (sym s ∙ t.words_are))
+  by_jobs (jobs.Check checks.Set) (jobs.Check checks.Set) s t p q = check_job left after after' faults now now' one other a b checks.Set p q f g
+  by_jobs (jobs.Check checks.Line) (jobs.Check checks.Line) s t p q = check_job left after after' faults now now' one other a b checks.Line p q f g
+  by_jobs (jobs.Check checks.Set) (jobs.Check checks.Line) s t p q = let never = one_kind checks.Set checks.Line (sym s ∙ t) in cc
+  by_jobs (jobs.Check checks.Line) (jobs.Check checks.Set) s t p q = let never = one_kind checks.Line checks.Set (sym s ∙ t) in cc
+
+  by_words : MayAnswer (Unit {0}) words (read left after after' faults now now' one other a b) one a → MayAnswer (Unit {0}) words (read' left after after' faults now now' one other a b) other b
+      → status_of a ≡ status_of b
+  by_words (inl p) (inl q) = ap status_of (p.answer_is ∙ sym q.answer_is)
+  by_words (inl p) (inr q) = absurd (p.none q.job q.spells)
+  by_words (inr p) (inl q) = absurd (q.none p.job p.spells)
+  by_words (inr p) (inr q) = by_jobs p.job q.job p.spells q.spells p.does q.does
+
+pub one_status : (words : List (List ℕ)) (left after after' : List ℕ) (faults now now' : ℕ) (one other : Served) (a b : Answer) → a ≢ answers.SourceFault → a ≢ answers.StationFault
+    → b ≢ answers.SourceFault → b ≢ answers.StationFault → one.before.journal ≡ other.before.journal
+    → MayAnswer (Unit {0}) words (record { left = Some left; after = Some after; faults = faults; faults_after = now }) one a
+    → MayAnswer (Unit {0}) words (record { left = Some left; after = Some after'; faults = faults; faults_after = now' }) other b
     → status_of a ≡ status_of b
-one_status words left after after' faults now now' answers.SourceFault b f g p q = absurd (f refl)
-one_status words left after after' faults now now' a answers.SourceFault f g p q = absurd (g refl)
-one_status words left after after' faults now now' answers.Words answers.Words f g p q = refl
-one_status words left after after' faults now now' answers.Words (answers.Refused place reason) f g (n, k) (job, e, q) = absurd (n job e)
-one_status words left after after' faults now now' answers.Words (answers.Set summary) f g (n, k) (job, e, q) = absurd (n job e)
-one_status words left after after' faults now now' answers.Words (answers.Line captured) f g (n, k) (job, e, q) = absurd (n job e)
-one_status words left after after' faults now now' (answers.Refused place reason) answers.Words f g (job, e, p) (n, k) = absurd (n job e)
-one_status words left after after' faults now now' (answers.Set summary) answers.Words f g (job, e, p) (n, k) = absurd (n job e)
-one_status words left after after' faults now now' (answers.Line captured) answers.Words f g (job, e, p) (n, k) = absurd (n job e)
-one_status words left after after' faults now now' (answers.Refused place reason) (answers.Refused place' reason') f g p q = refl
-one_status words left after after' faults now now' (answers.Set summary) (answers.Set summary') f g p q = refl
-one_status words left after after' faults now now' (answers.Refused place reason) (answers.Set summary) f g (jobs.Check checks.Set, e, (input, is, r)) (jobs.Check checks.Set, e', (input', is', s)) =
-    absurd (apart left after after' input input' place reason summary is is' r s)
-one_status words left after after' faults now now' (answers.Set summary) (answers.Refused place reason) f g (jobs.Check checks.Set, e, (input, is, s)) (jobs.Check checks.Set, e', (input', is', r)) =
-    absurd (apart left after' after input' input place reason summary is' is r s)
-one_status words left after after' faults now now' (answers.Refused place reason) (answers.Set summary) f g (jobs.Check checks.Line, e, p) (jobs.Check checks.Set, e', q) = absurd (set_words words e' e)
-one_status words left after after' faults now now' (answers.Refused place reason) (answers.Set summary) f g (job, e, p) (jobs.Check checks.Line, e', (input, is, q)) = absurd q
-one_status words left after after' faults now now' (answers.Set summary) (answers.Refused place reason) f g (jobs.Check checks.Set, e, p) (jobs.Check checks.Line, e', q) = absurd (set_words words e e')
-one_status words left after after' faults now now' (answers.Set summary) (answers.Refused place reason) f g (jobs.Check checks.Line, e, (input, is, p)) (job, e', q) = absurd p
-one_status words left after after' faults now now' (answers.Line captured) (answers.Line captured') f g (jobs.Check checks.Line, e, (input, is, (short, same))) (jobs.Check checks.Line, e', (input', is', (short', same'))) =
-    ap (λ (bytes : List ℕ). if has_refused bytes then INPUT_REFUSED else DONE)
-    (same ∙ sym (all_left left after input is short) ∙ all_left left after' input' is' short' ∙ sym same')
-one_status words left after after' faults now now' (answers.Line captured) (answers.Line captured') f g (jobs.Check checks.Set, e, (input, is, p)) q = absurd p
-one_status words left after after' faults now now' (answers.Line captured) (answers.Line captured') f g p (jobs.Check checks.Set, e', (input', is', q)) = absurd q
-one_status words left after after' faults now now' (answers.Line captured) (answers.Refused place reason) f g (jobs.Check checks.Line, e, (input, is, (short, same))) (jobs.Check checks.Line, e', (input', is', long)) =
-    absurd (captured_apart left after' after input' input place reason is' is long short)
-one_status words left after after' faults now now' (answers.Line captured) (answers.Refused place reason) f g (jobs.Check checks.Set, e, (input, is, p)) q = absurd p
-one_status words left after after' faults now now' (answers.Line captured) (answers.Refused place reason) f g (jobs.Check checks.Line, e, p) (jobs.Check checks.Set, e', q) = absurd (set_words words e' e)
-one_status words left after after' faults now now' (answers.Refused place reason) (answers.Line captured) f g (jobs.Check checks.Line, e, (input, is, long)) (jobs.Check checks.Line, e', (input', is', (short, same))) =
-    absurd (captured_apart left after after' input input' place reason is is' long short)
-one_status words left after after' faults now now' (answers.Refused place reason) (answers.Line captured) f g p (jobs.Check checks.Set, e', (input', is', q)) = absurd q
-one_status words left after after' faults now now' (answers.Refused place reason) (answers.Line captured) f g (jobs.Check checks.Set, e, p) (jobs.Check checks.Line, e', q) = absurd (set_words words e e')
-one_status words left after after' faults now now' (answers.Set summary) (answers.Line captured) f g (jobs.Check checks.Line, e, (input, is, p)) q = absurd p
-one_status words left after after' faults now now' (answers.Set summary) (answers.Line captured) f g p (jobs.Check checks.Set, e', (input', is', q)) = absurd q
-one_status words left after after' faults now now' (answers.Set summary) (answers.Line captured) f g (jobs.Check checks.Set, e, p) (jobs.Check checks.Line, e', q) = absurd (set_words words e e')
-one_status words left after after' faults now now' (answers.Line captured) (answers.Set summary) f g (jobs.Check checks.Set, e, (input, is, p)) q = absurd p
-one_status words left after after' faults now now' (answers.Line captured) (answers.Set summary) f g p (jobs.Check checks.Line, e', (input', is', q)) = absurd q
-one_status words left after after' faults now now' (answers.Line captured) (answers.Set summary) f g (jobs.Check checks.Line, e, p) (jobs.Check checks.Set, e', q) = absurd (set_words words e' e)
+one_status words left after after' faults now now' one other a b f f' g g' same p q = by_words words left after after' faults now now' one other a b f f' g g' same p q

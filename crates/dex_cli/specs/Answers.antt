@@ -1,5 +1,5 @@
 -- Which answers may come of which words and input, and their statuses.
-use Rattle.std.specs.Prelude.{◌≡◌, ◌⊎◌, ◌≢◌, ℕ, Bool, if◌then◌else◌, ◌+◌, ◌<◌, ◌≤◌, List, ◌++◌, length, Option, Some}
+use Rattle.std.specs.Prelude.{◌≡◌, ◌⊎◌, ℕ, Bool, if◌then◌else◌, ◌<◌, ◌≤◌, List, length, Option, Some}
 use Rattle.std.specs.Io.KnownBytes.{Consumes, IsAtEnd}
 use Rattle.std.specs.List.{list_any}
 use Rattle.dsd_station.specs.Causes.{Rose}
@@ -10,14 +10,17 @@ use Rattle.segments.specs.declared.set_fault.SetReason.TheVariants as reasons
 use Rattle.base_record_894.specs.BaseRecord.{BaseRecord}
 use Rattle.base_record_894.specs.RecordText.{Is894}
 use Rattle.base_record_894.specs.FirstRefusal.{refusal_of}
-use Rattle.dex_cli.specs.Words.{words_of}
+use Rattle.dex_cli.specs.Words.{Spells}
+use Rattle.dex_cli.specs.Formatting.{Served, Formats}
 use Rattle.dex_cli.specs.declared.answer.Answer.{Answer}
 use Rattle.dex_cli.specs.declared.answer.Answer.TheVariants as answers
 use Rattle.dex_cli.specs.declared.job.TheConstants.{INPUT_BYTES}
-use Rattle.dex_cli.specs.declared.status.TheConstants.{DONE, WORDS_REFUSED, INPUT_REFUSED, SOURCE_FAILED}
+use Rattle.dex_cli.specs.declared.status.TheConstants.{DONE, WORDS_REFUSED, INPUT_REFUSED, SOURCE_FAILED, STATION_FAILED, JOURNAL_REFUSED}
 use Rattle.dex_cli.specs.declared.words.Job.{Job}
 use Rattle.dex_cli.specs.declared.words.Job.TheVariants as jobs
+use Rattle.dex_cli.specs.declared.words.CheckKind.{CheckKind}
 use Rattle.dex_cli.specs.declared.words.CheckKind.TheVariants as checks
+use Rattle.dex_cli.specs.declared.format_words.NewJournal.{NewJournal}
 
 -- the source gave this input: all that it had, or its front up to the first byte past the limit
 pub record IsInput (left after : Option (List ℕ)) (input : List ℕ) : Type 0 where
@@ -41,22 +44,28 @@ pub record IsRefused (input : List ℕ) (place : ℕ) (reason : SetReason) : Typ
 abbrev pub ChecksSet : List ℕ → Answer → Type 0
 ChecksSet input answers.Words = ⊥
 ChecksSet input answers.SourceFault = ⊥
+ChecksSet input answers.StationFault = ⊥
 ChecksSet input (answers.Refused place reason) = IsTooLong input place reason ⊎ IsRefused input place reason
 ChecksSet input (answers.Set summary) = (length input ≤ INPUT_BYTES) × Is894 summary.base summary.seal input
 ChecksSet input (answers.Line captured) = ⊥
+ChecksSet input answers.Formatted = ⊥
+ChecksSet input (answers.NotEmpty size) = ⊥
 
 -- What `check line` answers to an input: its frames are found when they are printed.
 abbrev pub ChecksLine : List ℕ → Answer → Type 0
 ChecksLine input answers.Words = ⊥
 ChecksLine input answers.SourceFault = ⊥
+ChecksLine input answers.StationFault = ⊥
 ChecksLine input (answers.Refused place reason) = IsTooLong input place reason
 ChecksLine input (answers.Set summary) = ⊥
 ChecksLine input (answers.Line captured) = (length input ≤ INPUT_BYTES) × (captured.items ≡ input)
+ChecksLine input answers.Formatted = ⊥
+ChecksLine input (answers.NotEmpty size) = ⊥
 
--- What a job answers to an input.
-abbrev pub Answered : Job → List ℕ → Answer → Type 0
-Answered (jobs.Check checks.Set) input answer = ChecksSet input answer
-Answered (jobs.Check checks.Line) input answer = ChecksLine input answer
+-- What a check answers to an input.
+abbrev pub Checks : CheckKind → List ℕ → Answer → Type 0
+Checks checks.Set input answer = ChecksSet input answer
+Checks checks.Line input answer = ChecksLine input answer
 
 -- what was left in the source before and after, and its count of faults before and after
 pub record Read : Type 0 where
@@ -65,17 +74,45 @@ pub record Read : Type 0 where
   pub faults : ℕ
   pub faults_after : ℕ
 
--- the words are a job's, and the answer is that job's to the input that was read
-abbrev pub IsJobs : List (List ℕ) → Read → Answer → Type 0
-IsJobs words read answer = (job : Job) × (words ≡ words_of job) × ((input : List ℕ) × IsInput read.left read.after input × Answered job input answer)
+-- The source failed.
+pub record IsUnread (read : Read) (answer : Answer) : Type 0 where
+  pub answer_is : answer ≡ answers.SourceFault
+  pub rose : Rose read.faults read.faults_after
 
--- When each answer may come.
-abbrev pub MayAnswer : List (List ℕ) → Read → Answer → Type 0
-MayAnswer words read answers.Words = ((job : Job) → words ≢ words_of job) × (read.after ≡ read.left)
-MayAnswer words read answers.SourceFault = ((job : Job) × (words ≡ words_of job)) × Rose read.faults read.faults_after
-MayAnswer words read (answers.Refused place reason) = IsJobs words read (answers.Refused place reason)
-MayAnswer words read (answers.Set summary) = IsJobs words read (answers.Set summary)
-MayAnswer words read (answers.Line captured) = IsJobs words read (answers.Line captured)
+-- The input was read, and this is the answer to it.
+pub record IsChecked (kind : CheckKind) (read : Read) (answer : Answer) : Type 0 where
+  pub input : List ℕ
+  pub read_is : IsInput read.left read.after input
+  pub checks : Checks kind input answer
+
+-- What a job answers to what was read, and to what its station told. A check leaves the station alone, and a `format` the source.
+abbrev pub Does : Type 0 → Job → Read → Served → Answer → Type 0
+Does tells (jobs.Check kind) read served answer = IsUnread read answer ⊎ IsChecked kind read answer
+Does tells (jobs.Format new) read served answer = (read.after ≡ read.left) × Formats tells new served answer
+
+-- The words are those of no job.
+pub record IsNoJob (words : List (List ℕ)) (read : Read) (answer : Answer) : Type 0 where
+  pub answer_is : answer ≡ answers.Words
+  pub none : (job : Job) → Spells job words → ⊥
+  pub unread : read.after ≡ read.left
+
+-- The words are those of a job, and this is its answer.
+pub record IsJobs (tells : Type 0) (words : List (List ℕ)) (read : Read) (served : Served) (answer : Answer) : Type 0 where
+  pub job : Job
+  pub spells : Spells job words
+  pub does : Does tells job read served answer
+
+-- Which answers may come.
+abbrev pub MayAnswer : Type 0 → List (List ℕ) → Read → Served → Answer → Type 0
+MayAnswer tells words read served answer = IsNoJob words read answer ⊎ IsJobs tells words read served answer
+
+-- the words are those of a check
+abbrev pub AsksCheck : List (List ℕ) → Type 0
+AsksCheck words = (kind : CheckKind) × Spells (jobs.Check kind) words
+
+-- the words are those of a `format`
+abbrev pub AsksFormat : List (List ℕ) → Type 0
+AsksFormat words = (new : NewJournal) × Spells (jobs.Format new) words
 
 -- a frame is damaged or bad
 abbrev pub has_refused : List ℕ → Bool
@@ -86,4 +123,7 @@ status_of (answers.Set summary) = DONE
 status_of answers.Words = WORDS_REFUSED
 status_of (answers.Refused place reason) = INPUT_REFUSED
 status_of answers.SourceFault = SOURCE_FAILED
+status_of answers.StationFault = STATION_FAILED
+status_of answers.Formatted = DONE
+status_of (answers.NotEmpty size) = JOURNAL_REFUSED
 status_of (answers.Line captured) = if has_refused captured.items then INPUT_REFUSED else DONE

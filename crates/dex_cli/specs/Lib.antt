@@ -1,3 +1,6 @@
+pub mod Names
+pub mod FormatWords
 pub mod Words
 pub mod Texts
+pub mod Formatting
 pub mod Answers

@@ -1,5 +1,5 @@
 -- The printed texts.
-use Rattle.std.specs.Prelude.{ℕ, ℤ, Bool, true, false, ◌||◌, ◌==◌, if◌then◌else◌, List, [], ◌∷◌, ◌++◌, length, map, codes}
+use Rattle.std.specs.Prelude.{ℕ, true, false, ◌||◌, ◌==◌, if◌then◌else◌, List, [], ◌∷◌, ◌++◌, length, map, codes}
 use Rattle.std.specs.Fmt.{decimal, signed_decimal}
 use Rattle.dsd_values.specs.Writing.{check_text, day_text}
 use Rattle.dsd_values.specs.declared.fault.ValueFault.{ValueFault}
@@ -8,7 +8,6 @@ use Rattle.dsd_values.specs.declared.flag.Flag.{Flag}
 use Rattle.dsd_values.specs.declared.flag.Flag.TheVariants as flags
 use Rattle.dex_line.specs.Captured.{frames_in, is_refused}
 use Rattle.dex_line.specs.FrameShapes.{FrameShape, Enq, Ack0, Ack1, Nak, Eot, Header, Block, Damaged, Bad}
-use Rattle.segments.specs.declared.seal.Seal.{Seal}
 use Rattle.segments.specs.declared.segment_fault.SegmentFault.{SegmentFault}
 use Rattle.segments.specs.declared.segment_fault.SegmentFault.TheVariants as segment_faults
 use Rattle.segments.specs.declared.set_fault.SetReason.{SetReason}
@@ -110,6 +109,9 @@ frames_text (frame ∷ more) = frame_line frame.0 frame.1 ++ (if is_refused fram
 unfoldable pub printed : Answer → List ℕ
 printed answers.Words = line (codes "WORDS")
 printed answers.SourceFault = line (codes "FAULT SOURCE")
+printed answers.StationFault = line (codes "FAULT STATION")
 printed (answers.Refused place reason) = line (both (codes "REFUSED") (both (decimal place) (reason_text reason)))
 printed (answers.Set summary) = summary_text summary
 printed (answers.Line captured) = frames_text (frames_in captured.items)
+printed answers.Formatted = line (codes "FORMATTED")
+printed (answers.NotEmpty size) = line (both (codes "NOT EMPTY") (decimal size))

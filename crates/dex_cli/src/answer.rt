@@ -10,10 +10,16 @@ pub enum Answer {
     Words,
     /// The source failed.
     SourceFault,
+    /// A call of the station failed.
+    StationFault,
     /// The input is refused at this place.
     Refused { place: usize, reason: SetReason },
     /// The input is this base record.
     Set(SetSummary),
     /// The input is these bytes, captured from one direction of the line.
     Line(Vec<u8>),
+    /// The journal was made.
+    Formatted,
+    /// The journal has so many bytes already, and was left as it is.
+    NotEmpty(u64),
 }

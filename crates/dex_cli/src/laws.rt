@@ -1,14 +1,24 @@
-//! Laws of the statuses.
+//! Laws of the words and of the statuses.
 
 ghost use Rattle.std.specs.Prelude.{◌≡◌, ◌≢◌, ℕ, List, Some};
 ghost use Rattle.dex_cli.specs.Answers.{Read, MayAnswer, status_of};
+ghost use Rattle.dex_cli.specs.Formatting.{Served};
+ghost use Rattle.dex_cli.specs.Words.{Spells};
 ghost use Rattle.dex_cli.specs.declared.answer.Answer.{Answer};
-ghost use Rattle.dex_cli.specs.declared.answer.Answer.TheVariants.{SourceFault};
+ghost use Rattle.dex_cli.specs.declared.answer.Answer.TheVariants.{SourceFault, StationFault};
+ghost use Rattle.dex_cli.specs.declared.words.Job.{Job};
 
-/// For a source that tells its bytes, the words and these bytes leave one status, a fault of the source aside.
+/// Words spell at most one job.
+pub fn one_job()
+    ensures { (words : List (List ℕ)) (one other : Job) → Spells one words → Spells other words → one ≡ other }
+{}
+
+/// For a source and a station that tell their bytes, the words and these bytes leave one status, faults of the source and
+/// of the station aside.
 pub fn one_status()
-    ensures { (words : List (List ℕ)) (left after after' : List ℕ) (faults now now' : ℕ) (a b : Answer) → a ≢ SourceFault → b ≢ SourceFault
-        → MayAnswer words (record { left = Some left; after = Some after; faults = faults; faults_after = now }) a
-        → MayAnswer words (record { left = Some left; after = Some after'; faults = faults; faults_after = now' }) b
+    ensures { (words : List (List ℕ)) (left after after' : List ℕ) (faults now now' : ℕ) (one other : Served) (a b : Answer)
+        → a ≢ SourceFault → a ≢ StationFault → b ≢ SourceFault → b ≢ StationFault → one.before.journal ≡ other.before.journal
+        → MayAnswer (Unit {0}) words (record { left = Some left; after = Some after; faults = faults; faults_after = now }) one a
+        → MayAnswer (Unit {0}) words (record { left = Some left; after = Some after'; faults = faults; faults_after = now' }) other b
         → status_of a ≡ status_of b }
 {}

@@ -4,8 +4,12 @@
 mod answer;
 mod check_line;
 mod check_set;
+mod fault;
+mod format_words;
+mod formatting;
 mod job;
 pub mod laws;
+mod name;
 mod reasons;
 mod report;
 mod status;
@@ -13,10 +17,13 @@ mod summary;
 mod words;
 
 pub use answer::Answer;
+pub use fault::WordsFault;
+pub use format_words::NewJournal;
 pub use job::{INPUT_BYTES, dex};
+pub use name::Name;
 pub use status::NO_MEMORY;
 pub use summary::SetSummary;
-pub use words::{CheckKind, Job, WordsFault, read_words};
+pub use words::{CheckKind, Job, read_words};
 
 #[cfg(test)]
 mod tests;

@@ -8,7 +8,9 @@ ghost use Rattle.dex_cli.specs.Texts.{line, both, reason_text, printed};
 use crate::answer::Answer;
 use crate::check_line::put_captured;
 use crate::reasons::put_reason;
-use crate::status::{DONE, INPUT_REFUSED, SOURCE_FAILED, WORDS_REFUSED};
+use crate::status::{
+    DONE, INPUT_REFUSED, JOURNAL_REFUSED, SOURCE_FAILED, STATION_FAILED, WORDS_REFUSED,
+};
 use crate::summary::put_summary;
 use segments::SetReason;
 use std::alloc::{AllocError, Global};
@@ -66,14 +68,9 @@ fn put_answer(alloc: Global, out: &mut Vec<u8>, answer: &Answer) -> Result<u8, A
     ensures status { IfOk result (λ status. status ≡ status_of answer.now) }
 {
     match answer {
-        Answer::Words => {
-            put(out, "WORDS\n")?;
-            Ok(WORDS_REFUSED)
-        }
-        Answer::SourceFault => {
-            put(out, "FAULT SOURCE\n")?;
-            Ok(SOURCE_FAILED)
-        }
+        Answer::Words => put_ending(out, "WORDS", WORDS_REFUSED),
+        Answer::SourceFault => put_ending(out, "FAULT SOURCE", SOURCE_FAILED),
+        Answer::StationFault => put_ending(out, "FAULT STATION", STATION_FAILED),
         Answer::Refused { place, reason } => {
             put_refusal(alloc, out, *place, reason)?;
             Ok(INPUT_REFUSED)
@@ -83,7 +80,22 @@ fn put_answer(alloc: Global, out: &mut Vec<u8>, answer: &Answer) -> Result<u8, A
             Ok(DONE)
         }
         Answer::Line(captured) => put_captured(alloc, out, captured),
+        Answer::Formatted => put_ending(out, "FORMATTED", DONE),
+        Answer::NotEmpty(size) => {
+            put_count(alloc, out, "NOT EMPTY", *size)?;
+            Ok(JOURNAL_REFUSED)
+        }
     }
+}
+
+/// A text that is all that is printed, and the status that goes with it.
+fn put_ending(out: &mut Vec<u8>, text: &str, status: u8) -> Result<u8, AllocError>
+    ensures text { OnOk result (out.new.items ≡ out.old.items ++ line text.now) }
+    ensures status { IfOk result (λ answer. answer ≡ status) }
+{
+    put(out, text)?;
+    put(out, "\n")?;
+    Ok(status)
 }
 
 fn put_refusal(

@@ -15,5 +15,11 @@ pub const SOURCE_FAILED: u8 = 4;
 /// The sink failed: a first part of the text is written.
 pub const SINK_FAILED: u8 = 5;
 
+/// A call of the station failed.
+pub const STATION_FAILED: u8 = 6;
+
+/// The journal is refused: one that was to be made is not empty.
+pub const JOURNAL_REFUSED: u8 = 7;
+
 /// Memory is wanting.
 pub const NO_MEMORY: u8 = 11;

@@ -1,10 +1,11 @@
 ghost use Rattle.std.specs.Prelude.{None};
 
 use super::*;
-use dsd_station::{Failed, MemorySink, MemorySource, Source};
+use dsd_station::{Failed, MemorySink, MemorySource, MemoryStation, Source};
 use std::alloc::{AllocError, Global};
 use std::test::Fail;
 
+mod formats;
 mod whole_sets;
 
 /// Two lines: 12 at 1.25 and 3 at .3333.
@@ -40,7 +41,8 @@ fn run(
     let Ok(mut sink) = MemorySink::new(alloc, room, &[]) else {
         return Err(Fail::from("no memory"));
     };
-    let status = dex(alloc, &words, &mut source, &mut sink);
+    let mut station = MemoryStation::new(alloc);
+    let status = dex(alloc, &words, &mut source, &mut sink, &mut station);
     Ok((status, Vec::from_slice(alloc, sink.written())?))
 }
 
@@ -241,7 +243,8 @@ fn a_byte_a_call(rt: HostRuntime) -> Result<(), Fail> {
         return Err(Fail::from("no memory"));
     };
     let words = words(alloc, "check set")?;
-    assert_eq!(rt; dex(alloc, &words, &mut source, &mut sink), 0);
+    let mut station = MemoryStation::new(alloc);
+    assert_eq!(rt; dex(alloc, &words, &mut source, &mut sink, &mut station), 0);
     assert_eq!(rt; sink.written(), SUMMARY.as_bytes());
     Ok(())
 }

@@ -1,11 +1,12 @@
 //! The words of the command line.
 
-ghost use Rattle.std.specs.Prelude.{◌≡◌, ◌≢◌, ◌↔◌, IfOk, IsTrue, IsErrOf, map, string_bytes, [], ◌∷◌};
-ghost use Rattle.dex_cli.specs.Words.{words_of};
+ghost use Rattle.std.specs.Prelude.{◌≡◌, ◌↔◌, IfOk, IsTrue, IsErrOf, map, string_bytes, [], ◌∷◌};
+ghost use Rattle.dex_cli.specs.Words.{Spells};
 ghost use Rattle.dex_cli.specs.declared.words.Job.{Job as JobValue};
 
+use crate::fault::WordsFault;
+use crate::format_words::{NewJournal, read_format};
 use std::alloc::Global;
-use thiserror::Error;
 
 /// What is checked.
 #[derive(Clone, Copy, Debug, PartialEq, Eq)]
@@ -17,34 +18,28 @@ pub enum CheckKind {
 }
 
 /// What the program is to do.
-#[derive(Debug, PartialEq, Eq, Drop)]
+#[derive(Debug, Drop)]
 pub enum Job {
     /// `check set`, `check line`: reads the source and prints what stands in it.
     Check(CheckKind),
-}
-
-/// Why words are no job.
-#[derive(Clone, Copy, Debug, PartialEq, Eq, Drop, Error)]
-pub enum WordsFault {
-    /// They are the words of no job.
-    #[error("these are the words of no job")]
-    Refused,
-    /// Memory is wanting.
-    #[error("memory is wanting")]
-    Memory,
+    /// `format ROLE OWN PEER JOURNAL`: makes a journal.
+    Format(NewJournal),
 }
 
 /// The job that the words, those after the program's name, spell.
-pub fn read_words(_alloc: Global, words: &[String]) -> Result<Job, WordsFault>
-    ensures found { IfOk result (λ job. map string_bytes words.now ≡ words_of job) }
-    ensures refused { IsErrOf result WordsFault.Refused → (job : JobValue) → map string_bytes words.now ≢ words_of job }
+pub fn read_words(alloc: Global, words: &[String]) -> Result<Job, WordsFault>
+    ensures found { IfOk result (λ job. Spells job (map string_bytes words.now)) }
+    ensures refused { IsErrOf result WordsFault.Refused → (job : JobValue) → Spells job (map string_bytes words.now) → ⊥ }
 {
     if are(words, "check", "set") {
-        Ok(Job::Check(CheckKind::Set))
-    } else if are(words, "check", "line") {
-        Ok(Job::Check(CheckKind::Line))
-    } else {
-        Err(WordsFault::Refused)
+        return Ok(Job::Check(CheckKind::Set));
+    }
+    if are(words, "check", "line") {
+        return Ok(Job::Check(CheckKind::Line));
+    }
+    match read_format(alloc, words) {
+        Ok(new) => Ok(Job::Format(new)),
+        Err(fault) => Err(fault),
     }
 }
 

@@ -1,4 +1,4 @@
-use Rattle.std.proofs.Common.{◌≡◌, ◌≤◌, length, inr, arith, None, Some}
+use Rattle.std.proofs.Common.{◌≤◌, length, inr, arith}
 use Rattle.dex_cli.specs.declared.job.TheConstants.{INPUT_BYTES}
 use Rattle.dex_cli.proofs.check_set.check_set.Goals as goal
 

@@ -1,4 +1,4 @@
-use Rattle.std.proofs.Common.{◌≡◌, map, string_bytes, sym, ap, ◌∙◌, arith, length, ◌∷◌, []}
+use Rattle.std.proofs.Common.{◌≡◌, string_bytes, sym, arith, length}
 use Rattle.dex_cli.proofs.Two.{map_two, both_are, first_differs}
 use Rattle.dex_cli.proofs.words.are.Goals as goal
 

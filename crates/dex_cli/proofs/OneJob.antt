@@ -1,0 +1,51 @@
+-- Words spell at most one job.
+use Rattle.std.proofs.Common.{◌≡◌, ℕ, List, get_or, refl, sym, ap, ◌∙◌, arith}
+use Rattle.dsd_values.specs.declared.role.Role.{Role}
+use Rattle.dsd_values.specs.declared.role.Role.TheVariants.{Supplier, Receiver}
+use Rattle.dsd_journal.specs.declared.header.Header.{Header}
+use Rattle.dex_cli.specs.FormatWords.{format_words, role_word}
+use Rattle.dex_cli.specs.Words.{check_words, Spells}
+use Rattle.dex_cli.specs.declared.format_words.NewJournal.{NewJournal}
+use Rattle.dex_cli.specs.declared.words.Job.{Job}
+use Rattle.dex_cli.specs.declared.words.Job.TheVariants as jobs
+use Rattle.dex_cli.specs.declared.words.CheckKind.{CheckKind}
+use Rattle.dex_cli.specs.declared.words.CheckKind.TheVariants as checks
+
+pub one_kind : (kind other : CheckKind) → check_words kind ≡ check_words other → kind ≡ other
+one_kind checks.Set checks.Set e = refl
+one_kind checks.Set checks.Line e = cc
+one_kind checks.Line checks.Set e = cc
+one_kind checks.Line checks.Line e = refl
+
+one_role : (role other : Role) → role_word role ≡ role_word other → role ≡ other
+one_role Supplier Supplier e = refl
+one_role Supplier Receiver e = let never : 104 ≡ 114 = ap (λ (l : List ℕ). get_or l 0 0) e in absurd (omega (arith, never))
+one_role Receiver Supplier e = let never : 114 ≡ 104 = ap (λ (l : List ℕ). get_or l 0 0) e in absurd (omega (arith, never))
+one_role Receiver Receiver e = refl
+
+same_header : (role role' : Role) (own own' peer peer' : List ℕ) → role ≡ role' → own ≡ own' → peer ≡ peer'
+    → (let h : Header = record { role = role; own = own; peer = peer } in h) ≡ record { role = role'; own = own'; peer = peer' }
+same_header role role' own own' peer peer' p q r = rw (p, q, r) refl
+
+same_new : (header header' : Header) (journal journal' : List ℕ) → header ≡ header' → journal ≡ journal'
+    → (let n : NewJournal = record { header = header; journal = journal } in n) ≡ record { header = header'; journal = journal' }
+same_new header header' journal journal' p q = rw (p, q) refl
+
+one_new : (new other : NewJournal) → format_words new ≡ format_words other → new ≡ other
+one_new new other e =
+    let word : role_word new.header.role ≡ role_word other.header.role = cc in
+    let own : new.header.own ≡ other.header.own = cc in
+    let peer : new.header.peer ≡ other.header.peer = cc in
+    let journal : new.journal ≡ other.journal = cc in
+    same_new new.header other.header new.journal other.journal
+    (same_header new.header.role other.header.role new.header.own other.header.own new.header.peer other.header.peer (one_role new.header.role other.header.role word) own peer) journal
+
+pub check_is_format : (kind : CheckKind) (new : NewJournal) → check_words kind ≡ format_words new → ⊥
+check_is_format checks.Set new e = cc
+check_is_format checks.Line new e = cc
+
+pub one_job : (words : List (List ℕ)) (one other : Job) → Spells one words → Spells other words → one ≡ other
+one_job words (jobs.Check kind) (jobs.Check kind') s t = ap (λ (k : CheckKind). jobs.Check k) (one_kind kind kind' (sym s ∙ t))
+one_job words (jobs.Format new) (jobs.Format new') s t = ap (λ (n : NewJournal). jobs.Format n) (one_new new new' (sym s.words_are ∙ t.words_are))
+one_job words (jobs.Check kind) (jobs.Format new) s t = absurd (check_is_format kind new (sym s ∙ t.words_are))
+one_job words (jobs.Format new) (jobs.Check kind) s t = absurd (check_is_format kind new (sym t ∙ s.words_are))
