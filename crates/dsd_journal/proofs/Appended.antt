@@ -28,7 +28,7 @@ module _ (before : View) (first : Entry) (more : List Entry) (gate : ℕ) (bytes
   pub appends : (r : Result (Unit {0}) Failed) → Opened gate bytes r old new → Appends before (first ∷ more) old new
   appends r o = record { keeps = o.keeps; syncs = o.syncs; stops = stops o.stops }
 
-  pub append_bytes : (done : Unit {0}) → Opened gate bytes (Ok done) old new → new.journal ≡ with_batch (gate_place before.entries) first more old.journal
+  append_bytes : (done : Unit {0}) → Opened gate bytes (Ok done) old new → new.journal ≡ with_batch (gate_place before.entries) first more old.journal
   append_bytes done o =
       o.ok.0 ∙ ap (λ (b : List ℕ). overwritten (overwritten old.journal (gate + 1) b) gate (open_gate ∷ [])) is_batch ∙ ap (λ (g : ℕ). with_batch g first more old.journal) is_gate
 

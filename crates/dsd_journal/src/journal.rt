@@ -180,16 +180,12 @@ impl Journal {
             return Err(AppendFault::Full(length));
         }
         fill(&mut self.batch, kind, payload);
-        match open_gate(station, self.entries.gate(), &self.batch) {
-            Ok(()) => {
-                self.keep(kind, payload);
-                Ok(())
-            }
-            Err(_) => {
-                self.works = false;
-                Err(AppendFault::Station)
-            }
-        }
+        let Ok(()) = open_gate(station, self.entries.gate(), &self.batch) else {
+            self.works = false;
+            return Err(AppendFault::Station);
+        };
+        self.keep(kind, payload);
+        Ok(())
     }
 
     // Keeps an entry in the room that was made for it.
