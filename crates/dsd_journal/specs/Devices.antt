@@ -61,7 +61,7 @@ pub record SinceSync (old new : Told) : Type 0 where
   pub now : Allows new.now (λ image out. (image ≡ old.journal) × (out ≡ old.now.gone))
 
 -- An opening writes nothing. Each stop since its start leaves what one at its start might have left, or the journal as a read gives it.
--- From the end of its sync on it is the latter. Where that sync failed the opening has failed, and nothing has changed.
+-- From the end of its sync on it is the latter. Where that sync failed the opening has failed, and the journal is untouched.
 pub record Opens (failed : Type 0) (old new : Told) : Type 0 where
   pub keeps : KeepsTalk old new
   pub journal : new.journal ≡ old.journal
