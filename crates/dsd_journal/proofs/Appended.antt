@@ -9,7 +9,7 @@ use Rattle.dsd_journal.specs.Devices.{Appends}
 use Rattle.dsd_journal.specs.JournalImage.{open_gate, gate_place, EachFits, Holds}
 use Rattle.dsd_station.specs.Disk.{overwritten}
 use Rattle.dsd_journal.specs.Journals.{View, Rests, WithOrWithout}
-use Rattle.dsd_journal.specs.Steps.{batch_of, TornInTwo, Opened}
+use Rattle.dsd_journal.specs.Steps.{batch_of, with_batch, TornInTwo, Opened}
 use Rattle.dsd_journal.proofs.Appending.{stop_leaves, holds_more}
 
 -- of a batch of entries behind one gate
@@ -28,10 +28,14 @@ module _ (before : View) (first : Entry) (more : List Entry) (gate : ℕ) (bytes
   pub appends : (r : Result (Unit {0}) Failed) → Opened gate bytes r old new → Appends before (first ∷ more) old new
   appends r o = record { keeps = o.keeps; syncs = o.syncs; stops = stops o.stops }
 
+  append_bytes : (done : Unit {0}) → Opened gate bytes (Ok done) old new → new.journal ≡ with_batch (gate_place before.entries) first more old.journal
+  append_bytes done o =
+      o.ok.0 ∙ ap (λ (b : List ℕ). overwritten (overwritten old.journal (gate + 1) b) gate (open_gate ∷ [])) is_batch ∙ ap (λ (g : ℕ). with_batch g first more old.journal) is_gate
+
   pub append_rests : (done : Unit {0}) (after : View) → after.header ≡ before.header → after.entries ≡ before.entries ++ first ∷ more → Opened gate bytes (Ok done) old new → Rests after new
   append_rests done after same_header same_entries o = record {
     holds = subst (λ h. Holds h after.entries new.journal) (sym same_header) (subst (λ (es : List Entry). Holds before.header es new.journal) (sym same_entries)
         (holds_more before.header before.entries first more old.journal rests.holds each room_at new.journal
-        (o.ok.0 ∙ ap (λ (b : List ℕ). overwritten (overwritten old.journal (gate + 1) b) gate (open_gate ∷ [])) is_batch ∙ ap (λ (g : ℕ). overwritten (overwritten old.journal (g + 1) (batch_of first more)) g (open_gate ∷ [])) is_gate)));
+        (append_bytes done o)));
     synced = o.ok.1;
   }

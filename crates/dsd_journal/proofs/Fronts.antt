@@ -1,5 +1,5 @@
 -- What stands behind an open gate is whole, or ends too early, or is no entry.
-use Rattle.std.proofs.Common.{◌≡◌, ◌≢◌, ◌⊎◌, inl, inr, ℕ, suc, ◌+◌, ◌-◌, ◌<◌, ◌≤◌, true, false, ◌==◌, nat_lt, nat_le, if◌then◌else◌, List, [], ◌∷◌, ◌++◌, length, get_or, take, drop, replicate, refl, sym, ◌∙◌, ap, subst, arith, append_assoc, length-append, length-take, Option, Some, None, Result, Ok, Err, IfOk, IfErr, MatchOption, Bor}
+use Rattle.std.proofs.Common.{◌≡◌, ◌≢◌, ◌⊎◌, inl, inr, ℕ, suc, ◌+◌, ◌-◌, ◌<◌, ◌≤◌, true, false, ◌==◌, nat_lt, nat_le, if◌then◌else◌, List, [], ◌∷◌, ◌++◌, length, take, drop, replicate, refl, sym, ◌∙◌, ap, subst, arith, append_assoc, length-append, length-take, Option, Some, None, Result, Ok, Err, IfOk, IfErr, MatchOption, Bor}
 use Rattle.std.proofs.lemmas.Bool.{cases_Bool}
 use Rattle.std.proofs.lemmas.Bool.Decides.{nat_tests}
 use Rattle.std.proofs.lemmas.List.{take_all, take_at, take-append-drop, take-append-le, length-replicate, drop-drop}
@@ -161,16 +161,6 @@ entry_decides gate (first ∷ rest) = go (kind_of_letter first) refl
       err = NoEntry 0 (omega arith) (omega arith) starts_nothing (λ s. kind_none first s.entry.kind is (heads first (kind_letter s.entry.kind) s.tail (to_be_bytes w32 (length s.entry.payload) ++ s.entry.payload) s.whole)) (omega arith);
     }
     go (Some kind) is = subst (λ b. DecidesEntry gate (b ∷ rest) (with_size gate kind rest (size_of rest))) (sym (kind_is first kind is)) (with_size_decides gate kind rest (size_of rest) (size_decides rest))
-
--- where all tests pass
-pub entry_found : (gate : ℕ) (behind : List ℕ) (kind : EntryKind) (size d : ℕ) → 0 < length behind → kind_of_letter (get_or behind 0 d) ≡ Some kind → size_of (drop 1 behind) ≡ Ok size
-    → gate + 6 + size < JOURNAL_BYTES → 4 + size ≤ length (drop 1 behind) → entry_of gate behind ≡ Ok (Some (kind, take size (drop 4 (drop 1 behind)), drop (4 + size) (drop 1 behind)))
-entry_found gate [] kind size d some is_kind is_size near enough = absurd (omega (arith, some))
-entry_found gate (first ∷ rest) kind size d some is_kind is_size near enough =
-    ap (λ (k : Option EntryKind). with_kind gate rest k) is_kind ∙ ap (λ (r : Result ℕ ℕ). with_size gate kind rest r) is_size ∙ tests (Err (gate + 1)) (Ok None) (Ok (Some (kind, take size (drop 4 rest), drop (4 + size) rest))) (gate + 6 + size) (length rest) (4 + size) near enough
-  where
-    tests : {A : Type 0} (x y z : A) (end long least : ℕ) → end < JOURNAL_BYTES → least ≤ long → (if nat_le JOURNAL_BYTES end then x else (if nat_lt long least then y else z)) ≡ z
-    tests x y z end long least low high = grind (arith, nat_tests)
 
 found_of : (gate : ℕ) (behind : List ℕ) (found : Option (EntryKind × List ℕ × List ℕ)) → entry_of gate behind ≡ Ok found → MatchOption found (IsUnfinished gate behind) (λ e. IsWhole gate behind e.0 e.1 e.2)
 found_of gate behind found is = let d = subst (DecidesEntry gate behind) is (entry_decides gate behind) in d.ok

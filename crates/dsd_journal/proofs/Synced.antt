@@ -1,19 +1,45 @@
 -- A sync, and calls that only look behind it.
-use Rattle.std.proofs.Common.{◌≡◌, ◌⊎◌, inl, inr, ℕ, List, [], ◌∷◌, sym, ◌∙◌, ap, subst, arith, append-nil, Result, Ok, Err, IfErr}
+use Rattle.std.proofs.Common.{◌≡◌, ◌⊎◌, inl, inr, ℕ, List, [], ◌∷◌, ◌++◌, sym, ◌∙◌, ap, subst, arith, append-nil, append_assoc, Result, Ok, Err, IfErr}
 use Rattle.dsd_station.specs.declared.failed.Failed.{Failed}
 use Rattle.dsd_station.specs.declared.call.Call.{Call}
 use Rattle.dsd_station.specs.declared.call.Call.TheVariants.{Sync}
 use Rattle.dsd_station.specs.declared.call.Outcome.{Outcome}
-use Rattle.dsd_station.specs.Effects.{Syncs, AddsAs, synced}
+use Rattle.dsd_station.specs.Effects.{Syncs, AddsAs, Passes, Stays, synced}
 use Rattle.dsd_station.specs.Puts.{Goes}
-use Rattle.dsd_station.specs.Stops.{then, weaken, syncs_stops}
-use Rattle.dsd_station.specs.Told.{Told, Moment, Allows, LeavesAt}
-use Rattle.dsd_journal.specs.Devices.{KeepsTalk, Looks, Opens}
+use Rattle.dsd_station.specs.Stops.{then, weaken, passed, stayed, syncs_stops}
+use Rattle.dsd_station.specs.Told.{Told, Moment, Allows, EachStop, LeavesAt}
+use Rattle.dsd_journal.specs.Devices.{KeepsTalk, Untouched, Looks, SinceSync, Opens}
 use Rattle.dsd_journal.proofs.Looking.{keeps_then}
 
 pub goes_as : (call : Outcome → Call) (result : Result (Unit {0}) Failed) (old new : Told) → AddsAs call result old new → Goes old new
 goes_as call result old new (inl same) = record { more = []; calls = same ∙ sym (append-nil old.calls) }
 goes_as call result old new (inr one) = record { more = call one.0 ∷ []; calls = one.2 }
+
+-- a sync that failed
+module _ (a b : Told) (failed : Failed) (s : Syncs (Err failed) a b) where
+  untouched_as : Passes a b [] a.now ⊎ Stays a b → Untouched a b
+  untouched_as (inl p) = record { journal = s.err.0.journal; now = p.now; stops = passed a b [] a.now (LeavesAt a.now) p (λ image out left. left) tt (λ image out left. left) }
+  untouched_as (inr k) = record { journal = s.err.0.journal; now = k.now; stops = stayed a b (LeavesAt a.now) k (λ image out left. left) }
+
+  untouched : Untouched a b
+  untouched = untouched_as s.err.1
+
+  pub opens_not : (F : Type 0) → F → Opens F a b
+  opens_not F fault = record {
+    keeps = record {
+      journal_name = s.err.0.journal_name;
+      port_name = s.err.0.port_name;
+      heard = s.err.0.heard;
+      gone = ap (λ (m : Moment). m.gone) untouched.now;
+      plan = s.err.0.plan;
+      syncs = s.count.0;
+      goes = goes_as (λ (outcome : Outcome). Sync outcome) (Err failed) a b s.calls;
+    };
+    journal = s.err.0.journal;
+    syncs = s.count.1;
+    stops = weaken (λ image out. LeavesAt a.now image out ⊎ ((image ≡ a.journal) × (out ≡ a.now.gone))) untouched.stops (λ image out left. inl left);
+    later = inl (fault, untouched);
+  }
 
 pub sync_keeps : (done : Unit {0}) (old new : Told) → Syncs (Ok done) old new → KeepsTalk old new
 sync_keeps done old new s = record {
@@ -27,19 +53,38 @@ sync_keeps done old new s = record {
 }
 
 module _ (a b c : Told) (done : Unit {0}) (F : Type 0) (s : Syncs (Ok done) a b) (l : Looks F b c) where
+  abbrev Sure : List ℕ → List ℕ → Type 0
+  Sure image out = (image ≡ a.journal) × (out ≡ a.now.gone)
+
+  sure : Allows (synced a.now a.journal) Sure
+  sure image out left = (left.image_of, left.gone_of)
+
+  looking : EachStop b c Sure
+  looking = weaken Sure l.untouched.stops (λ image out left. subst (λ (m : Moment). Allows m Sure) (sym s.ok.1.now) sure image out left)
+
+  since : SinceSync a c
+  since = record {
+    syncs = l.syncs ∙ s.ok.0.syncs;
+    during = looking.during;
+    past = looking.past ∙ ap (λ (p : List Moment). p ++ looking.during) s.ok.1.past ∙ append_assoc a.past (a.now ∷ []) looking.during;
+    each = looking.each;
+    now = looking.now;
+  }
+
   abbrev pub Left : List ℕ → List ℕ → Type 0
   Left image out = LeavesAt a.now image out ⊎ ((image ≡ a.journal) × (out ≡ a.now.gone))
 
   behind : Allows (synced a.now a.journal) Left
   behind image out left = inr (left.image_of, left.gone_of)
 
-  pub opens : Opens a c
+  pub opens : Opens F a c
   opens = record {
     keeps = keeps_then a b c (sync_keeps done a b s) l.keeps;
     journal = l.untouched.journal ∙ s.ok.0.journal;
     syncs = omega (arith, l.syncs, s.count.1);
     stops = then (syncs_stops (Ok done) a b Left s (λ image out left. inl left) behind)
         (weaken Left l.untouched.stops (λ image out left. subst (λ (m : Moment). Allows m Left) (sym s.ok.1.now) behind image out left));
+    later = inr since;
   }
 
 pub if_err : (T E : Type 0) (r : Result T E) (P : E → Type 0) (e : E) → IfErr r P → r ≡ Err e → P e

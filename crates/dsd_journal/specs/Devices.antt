@@ -1,11 +1,11 @@
 -- What the calls of a journal do to what its station tells.
-use Rattle.std.specs.Prelude.{ℕ, ◌+◌, ◌<◌, ◌≤◌, ◌≡◌, ◌⊎◌, List, [], ◌++◌, length, Result, Ok, Err, OnOk}
+use Rattle.std.specs.Prelude.{ℕ, ◌+◌, ◌<◌, ◌≤◌, ◌≡◌, ◌⊎◌, List, [], ◌∷◌, ◌++◌, length, Result, Ok, Err, OnOk}
 use Rattle.dsd_station.specs.declared.call.Call.{Call}
 use Rattle.dsd_station.specs.declared.failed.Failed.{Failed}
 use Rattle.dsd_station.specs.Disk.{Torn}
 use Rattle.dsd_station.specs.Failures.{failed_in}
 use Rattle.dsd_station.specs.Puts.{Goes}
-use Rattle.dsd_station.specs.Told.{Told, EachStop, IsSynced, LeavesAt}
+use Rattle.dsd_station.specs.Told.{Told, Moment, Allows, EachAllows, EachStop, IsSynced, LeavesAt}
 use Rattle.dsd_journal.specs.declared.opening.OpenFault.{OpenFault}
 use Rattle.dsd_journal.specs.declared.opening.OpenFault.TheVariants.{Station as NoStation}
 use Rattle.dsd_journal.specs.declared.formatting.FormatFault.{FormatFault}
@@ -51,12 +51,23 @@ pub record Looks (failed : Type 0) (old new : Told) : Type 0 where
   pub untouched : Untouched old new
   pub unfailed : failed ⊎ Unfailed old new
 
+-- The first moment since the old one is the end of a sync. Each stop from then on leaves the journal as a read gives it, and nothing
+-- else. Of the station: after a sync a stop leaves what a read gives.
+pub record SinceSync (old new : Told) : Type 0 where
+  pub syncs : new.syncs ≡ old.syncs + 1
+  pub during : List Moment
+  pub past : new.past ≡ old.past ++ old.now ∷ during
+  pub each : EachAllows during (λ image out. (image ≡ old.journal) × (out ≡ old.now.gone))
+  pub now : Allows new.now (λ image out. (image ≡ old.journal) × (out ≡ old.now.gone))
+
 -- An opening writes nothing. Each stop since its start leaves what one at its start might have left, or the journal as a read gives it.
-pub record Opens (old new : Told) : Type 0 where
+-- From the end of its sync on it is the latter. Where that sync failed the opening has failed, and the journal is untouched.
+pub record Opens (failed : Type 0) (old new : Told) : Type 0 where
   pub keeps : KeepsTalk old new
   pub journal : new.journal ≡ old.journal
   pub syncs : new.syncs ≤ old.syncs + 1
   pub stops : EachStop old new (λ image out. LeavesAt old.now image out ⊎ ((image ≡ old.journal) × (out ≡ old.now.gone)))
+  pub later : (failed × Untouched old new) ⊎ SinceSync old new
 
 -- What a write of a header and a sync do to an empty journal. After a failure a first part of it may be written, or other bytes.
 pub record WritesHeader (header : Header) (result : Result (Unit {0}) Failed) (old new : Told) : Type 0 where

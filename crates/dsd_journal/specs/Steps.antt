@@ -11,6 +11,10 @@ use Rattle.dsd_journal.specs.JournalImage.{open_gate, body, spelled}
 abbrev pub batch_of : Entry → List Entry → List ℕ
 batch_of first more = body first ++ (spelled more ++ 0 ∷ [])
 
+-- The image with these entries written behind the closed gate at this place, and then the gate opened. This project's profile.
+abbrev pub with_batch : ℕ → Entry → List Entry → List ℕ → List ℕ
+with_batch gate first more image = overwritten (overwritten image (gate + 1) (batch_of first more)) gate (open_gate ∷ [])
+
 -- a stop leaves the bytes torn behind the gate, or the gate torn before them
 abbrev pub TornInTwo : ℕ → List ℕ → List ℕ → List ℕ → Type 0
 TornInTwo gate bytes old image = Torn (gate + 1) (length bytes) old image ⊎ Torn gate 1 (overwritten old (gate + 1) bytes) image

@@ -1,6 +1,6 @@
 //! What stands behind an open gate.
 
-ghost use Rattle.std.specs.Prelude.{◌≡◌, ◌==◌, ◌&&◌, ◌||◌, nat_lt, [], ◌∷◌, ◌+◌, ◌<◌, ◌≤◌, Err, IfErr, IfOk, MatchOption, None, Ok, Some};
+ghost use Rattle.std.specs.Prelude.{◌≡◌, ◌==◌, ◌&&◌, ◌||◌, nat_lt, take, drop, length, [], ◌∷◌, ◌+◌, ◌<◌, ◌≤◌, Err, IfErr, IfOk, MatchOption, None, Ok, Some};
 ghost use Rattle.dsd_values.specs.declared.limits.TheConstants.{SET_BYTES as MOST_BYTES};
 ghost use Rattle.dsd_journal.specs.Reading.{entry_of, kind_of_letter, size_fourth, size_of, IsBad, IsUnfinished, IsWhole};
 
@@ -38,11 +38,19 @@ fn find_entry(gate: u64, behind: &[u8]) -> Result<Option<(EntryKind, &[u8], &[u8
         Err(count) => Err(gate + 2 + count as u64),
         Ok(size) if gate + 6 + size as u64 >= JOURNAL_BYTES => Err(gate + 1),
         Ok(size) if rest.len() < SIZE_BYTES + size => Ok(None),
-        Ok(size) => {
-            let (payload, next) = rest[SIZE_BYTES..].split_at(size);
-            Ok(Some((kind, payload, next)))
-        }
+        Ok(size) => Ok(Some(cut_entry(kind, rest, size))),
     }
+}
+
+// The kind, the payload of this length that stands behind its length, and what is behind it.
+fn cut_entry(kind: EntryKind, sized: &[u8], size: usize) -> (EntryKind, &[u8], &[u8])
+    requires { 4 + size ≤ length sized.now }
+    ensures kind { result.0 ≡ kind }
+    ensures payload { result.1.now ≡ take size (drop 4 sized.now) }
+    ensures behind { result.2.now ≡ drop (4 + size) sized.now }
+{
+    let (payload, next) = sized[SIZE_BYTES..].split_at(size);
+    (kind, payload, next)
 }
 
 fn kind_of(letter: u8) -> Option<EntryKind>

@@ -6,6 +6,7 @@ ghost use Rattle.dsd_station.specs.Told.{ReadMayStay};
 ghost use Rattle.dsd_journal.specs.Devices.{Appends};
 ghost use Rattle.dsd_journal.specs.JournalImage.{gate_place, IsPayloadLength};
 ghost use Rattle.dsd_journal.specs.Journals.{with_entry, with_spare, without_work, Rests};
+ghost use Rattle.dsd_journal.specs.Steps.{with_batch};
 
 use crate::append_fault::AppendFault;
 use crate::batch::{add, fill};
@@ -168,6 +169,9 @@ impl Journal {
             → (result ≡ Ok tt) ⊎ ((result ≡ Err AppendFault.Station) × (self.new ≡ without_work self.old) × Rose (T.faults station.old) (T.faults station.new)) }
         // After an `Ok` each stop leaves the entries with the new one.
         ensures rests { T.tells → OnOk result (Rests self.new (T.told station.new)) }
+        // Its kind, its length, its payload and a closed gate of 0 stand behind the gate, which is open. All else is as it was.
+        ensures bytes { T.tells → OnOk result ((T.told station.new).journal
+            ≡ with_batch (gate_place self.old.entries) (record { kind = kind; payload = payload.now }) [] (T.told station.old).journal) }
         ensures told { T.tells → Appends self.old ((record { kind = kind; payload = payload.now }) ∷ []) (T.told station.old) (T.told station.new) }
         ensures stays { T.tells → ReadMayStay (T.told station.new) }
     {
@@ -176,16 +180,12 @@ impl Journal {
             return Err(AppendFault::Full(length));
         }
         fill(&mut self.batch, kind, payload);
-        match open_gate(station, self.entries.gate(), &self.batch) {
-            Ok(()) => {
-                self.keep(kind, payload);
-                Ok(())
-            }
-            Err(_) => {
-                self.works = false;
-                Err(AppendFault::Station)
-            }
-        }
+        let Ok(()) = open_gate(station, self.entries.gate(), &self.batch) else {
+            self.works = false;
+            return Err(AppendFault::Station);
+        };
+        self.keep(kind, payload);
+        Ok(())
     }
 
     // Keeps an entry in the room that was made for it.

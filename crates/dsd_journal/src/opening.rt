@@ -54,7 +54,8 @@ pub fn open_journal<T: Station>(alloc: Global, station: &mut T) -> Result<Journa
     ensures refused { T.tells → (place : ℕ) → result ≡ Err (OpenFault.NotAJournal place) → IsRefused (T.told station.old).journal place }
     // No call of the station has failed, and all of its journal is sure, unless `Station` is answered.
     ensures unfailed { T.tells → IsStationFault result ⊎ (Unfailed (T.told station.old) (T.told station.new) × IsSynced (T.told station.new)) }
-    ensures told { T.tells → Opens (T.told station.old) (T.told station.new) }
+    // From the end of that sync on each stop leaves the journal as it was read.
+    ensures told { T.tells → Opens (IsStationFault result) (T.told station.old) (T.told station.new) }
     ensures stays { T.tells → ReadMayStay (T.told station.new) }
 {
     match station.sync() {

@@ -8,8 +8,8 @@ use Rattle.dsd_journal.proofs.Appended.{appends, append_rests}
 use Rattle.dsd_journal.proofs.Peeling.{body_length}
 use Rattle.dsd_journal.proofs.journal.Journal.append.Goals as goal
 
-pub returns-in-Ok-clause-rests : goal.returns-in-Ok-clause-rests
-returns-in-Ok-clause-rests g c = λ tells.
+pub returns-clause-rests : goal.returns-clause-rests
+returns-clause-rests g c = λ tells.
     let e : Entry = record { kind = c.args.kind; payload = c.args.payload.now } in
     let before = c.args.self.now in
     let gate_is : c.gate-2.result ≡ gate_place before.entries = c.gate-2.ensures.value ∙ ap (λ (v : View). gate_place v.entries) c.self.view_is in
@@ -20,8 +20,8 @@ returns-in-Ok-clause-rests g c = λ tells.
     append_rests before e [] c.gate-2.result c.deref.result.now (g.T.Station.told c.args.station.now) (g.T.Station.told c.open_gate.new.station) (c.requires.rests tells) gate_is batch_is (c.requires.length, tt) room
     c.in-Ok.field-0 c.keep.new.self (ap (λ (v : View). v.header) after) (ap (λ (v : View). v.entries) after) (c.in-Ok.ensures.told tells)
 
-pub returns-in-Ok-clause-told : goal.returns-in-Ok-clause-told
-returns-in-Ok-clause-told g c = λ tells.
+pub returns-clause-told : goal.returns-clause-told
+returns-clause-told g c = λ tells.
     let e : Entry = record { kind = c.args.kind; payload = c.args.payload.now } in
     let before = c.args.self.now in
     let gate_is : c.gate-2.result ≡ gate_place before.entries = c.gate-2.ensures.value ∙ ap (λ (v : View). gate_place v.entries) c.self.view_is in
@@ -31,8 +31,8 @@ returns-in-Ok-clause-told g c = λ tells.
     appends before e [] c.gate-2.result c.deref.result.now (g.T.Station.told c.args.station.now) (g.T.Station.told c.open_gate.new.station) (c.requires.rests tells) gate_is batch_is (c.requires.length, tt) room
     c.open_gate.result (c.open_gate.ensures.told tells)
 
-pub returns-in-Err-clause-told : goal.returns-in-Err-clause-told
-returns-in-Err-clause-told g c = λ tells.
+pub returns-in_default-clause-told : goal.returns-in_default-clause-told
+returns-in_default-clause-told g c = λ tells.
     let e : Entry = record { kind = c.args.kind; payload = c.args.payload.now } in
     let before = c.args.self.now in
     let gate_is : c.gate-2.result ≡ gate_place before.entries = c.gate-2.ensures.value ∙ ap (λ (v : View). gate_place v.entries) c.self.view_is in
