@@ -112,7 +112,7 @@ sized_beside : (extra : Extra) → IsSized false extra → HasSizeIn None extra
 sized_beside (Allow a) h = λ basis counts. size_beside a.total a.rate a.quantity a.percent basis (h counts)
 sized_beside (Note text) h = tt
 
-line_sized : (line : Line) → HasExtras line → All (HasSizeIn (Some line.quantity)) line.extras
+pub line_sized : (line : Line) → HasExtras line → All (HasSizeIn (Some line.quantity)) line.extras
 line_sized line h = All-weaker (IsSized true) (HasSizeIn (Some line.quantity)) (sized_inside line.quantity) line.extras h.sized
 
 -- what was read has a price

@@ -29,13 +29,12 @@ use Rattle.segments.proofs.Cutting.{spelled_of-cut, cut_of-spelled}
 use Rattle.segments.proofs.Small.{both_none, no_value, none_then, not_when, same_number}
 use Rattle.segments.proofs.Rest.{IsAt, Read}
 use Rattle.segments.proofs.Whole.{AreShort, and_both, are_short, both_and, end_at, end_of, no_fault}
-use Rattle.segments.proofs.Back.{moves}
 use Rattle.segments.proofs.Behind.{no_extras}
 use Rattle.segments.proofs.Keeps.{Sound, is_sound, keeps, at_next, refused_none, none_refused, ended_none, none_ended, done_is, MayStand, may_stand, admitted}
 use Rattle.base_record_894.specs.BaseRecord.{BaseRecord}
 use Rattle.base_record_894.specs.Grammar.{shared_of, AreSegments, FromStart}
 use Rattle.base_record_894.specs.RecordText.{Is894}
-use Rattle.base_record_894.specs.Said.{Said, nothing, own_reason, reason_of, answer_reason, rows_reason, kept_by, after, has_head}
+use Rattle.base_record_894.specs.Said.{Said, nothing, own_reason, reason_of, rows_reason, kept_by, after, has_head}
 use Rattle.base_record_894.specs.FirstRefusal.{judged}
 use Rattle.segments.specs.Refusal.{refusal_from, said_by}
 use Rattle.base_record_894.specs.ReadParts.{IsReadFrom, record_of, seal_of}
@@ -52,9 +51,8 @@ record Stands (m : Said) (seg : Seg) : Type 0 where
 stands : (m : Said) (seg : Seg) → reason_of m seg ≡ None → Stands m seg
 unfolding reason_of
 stands m seg e =
-    let a = both_none _ _ e in
-    let b = both_none _ _ a.1 in
-    record { may = may_stand forms.Base m.course.phase (kind_of forms.Base seg) seg b.0; right = b.1 }
+    let n = both_none _ _ e in
+    record { may = may_stand forms.Base m.course.phase (kind_of forms.Base seg) seg n.0; right = n.1 }
 
 at_after : (m : Said) (before : List Seg) (seg : Seg) → IsAt before m.course → IsAt (before ++ seg ∷ []) (after m seg).course
 unfolding kept_by
@@ -309,11 +307,11 @@ some_record text e =
 
 -- ---- what is the rest of a record stands to the end
 
-none_of : (m : Said) (seg : Seg) (kind : Kind) → kind_of forms.Base seg ≡ kind → answer_reason m.course.phase kind seg ≡ None → admission forms.Base m.course.phase kind seg ≡ None → own_reason m seg kind ≡ None → reason_of m seg ≡ None
+none_of : (m : Said) (seg : Seg) (kind : Kind) → kind_of forms.Base seg ≡ kind → admission forms.Base m.course.phase kind seg ≡ None → own_reason m seg kind ≡ None → reason_of m seg ≡ None
 unfolding reason_of
-none_of m seg kind k a d o =
-    subst (λ (u : Kind). (answer_reason m.course.phase u seg or_else admission forms.Base m.course.phase u seg or_else own_reason m seg u) ≡ None) (sym k)
-    (none_then _ _ a (none_then _ _ d o))
+none_of m seg kind k d o =
+    subst (λ (u : Kind). (admission forms.Base m.course.phase u seg or_else own_reason m seg u) ≡ None) (sym k)
+    (none_then _ _ d o)
 
 pub record IsReadSo (m : Said) (b : BaseRecord) (s : Seal) (amount : ℕ) (place : ℕ) (segs : List Seg) : Type 0 where
   pub none : refusal_from judged m place segs None ≡ None
@@ -347,10 +345,6 @@ at_end phases.Integrity m b s amount before (h, (read, totals, g, rest)) = absur
 at_end phases.Trailer m b s amount before (h, (read, totals, g, i, rest)) = absurd rest
 at_end phases.Done m b s amount before (h, (read, totals, g, i, e)) = record { done = refl; head = h; read = read; totals = totals; signature = g; check = i }
 
-not_answer : (p : Phase) (k : Kind) (seg : Seg) → moves (next_phase p k forms.Base) ≡ true → answer_reason p k seg ≡ None
-not_answer phases.Start kinds.Other seg e = cc
-not_answer _ _ seg e = refl
-
 only_rest : (segs : List Seg) (m : Said) (b : BaseRecord) (s : Seal) (amount : ℕ) (before : List Seg) (place : ℕ) → IsSound b.lines b.extras → pos amount ≡ priced b.lines b.extras → IsAt before m.course → AreShort segs
     → Rest894 m.course.phase m b s amount before segs → IsReadSo m b s amount place segs
 unfolding kept kept_by
@@ -372,8 +366,7 @@ only_rest (seg ∷ segs) m b s amount before place sound price at (here, short) 
     let check = crc_from m.course.check seg.bytes in
     let n = forth m b s amount before seg segs count check sound price at m.course.phase refl r in
     let k : kind_of forms.Base seg ≡ n.kind = n.goes.0 in
-    let right : reason_of m seg ≡ None = none_of m seg n.kind k (not_answer m.course.phase n.kind seg n.moves_on)
-    (admitted forms.Base m.course.phase n.kind seg n.moves_on here) n.goes.1 in
+    let right : reason_of m seg ≡ None = none_of m seg n.kind k (admitted forms.Base m.course.phase n.kind seg n.moves_on here) n.goes.1 in
     let rest : Rest894 (after m seg).course.phase (after m seg) b s amount (before ++ seg ∷ []) segs =
     subst (λ (kind : Kind). Rest894 (phase_in (next_phase m.course.phase kind forms.Base)) (kept_by m seg kind (phase_in (next_phase m.course.phase kind forms.Base)) count check) b s amount (before ++ seg ∷ []) segs) (sym k) n.goes.2 in
     let more = only_rest segs (after m seg) b s amount (before ++ seg ∷ []) (seg.start + length seg.bytes) sound price (at_after m before seg at) short rest in

@@ -5,10 +5,10 @@ use Rattle.block_check.specs.Crc16.{crc_from}
 use Rattle.dsd_pricing.specs.Pricing.{priced, quantities}
 use Rattle.dsd_values.specs.declared.extra.Extra.{Extra}
 use Rattle.dsd_values.specs.declared.line.Line.{Line}
-use Rattle.segments.specs.Views.{Seg, element_of}
+use Rattle.segments.specs.Views.{Seg}
 use Rattle.segments.specs.Elements.{◌or_else◌}
 use Rattle.segments.specs.Tables.{totals_fault, totals_in}
-use Rattle.segments.specs.Kinds.{kind_of, next_phase, is_start_of, is_done}
+use Rattle.segments.specs.Kinds.{kind_of, next_phase, is_done}
 use Rattle.segments.specs.SoFar.{SoFar, kept, phase_in}
 use Rattle.segments.specs.SoFar as course
 use Rattle.segments.specs.Reasons.{when, as_value, admission, course_reason}
@@ -16,7 +16,6 @@ use Rattle.segments.specs.declared.kind.Form.TheVariants as forms
 use Rattle.segments.specs.declared.kind.Kind.{Kind}
 use Rattle.segments.specs.declared.kind.Kind.TheVariants as kinds
 use Rattle.segments.specs.declared.phase.Phase.{Phase}
-use Rattle.segments.specs.declared.phase.Phase.TheVariants as phases
 use Rattle.segments.specs.declared.stated.StatedTotals.{StatedTotals}
 use Rattle.segments.specs.declared.set_fault.SetReason.{SetReason}
 use Rattle.segments.specs.declared.set_fault.SetReason.TheVariants as reasons
@@ -30,11 +29,6 @@ pub record Said : Type 0 where
 
 abbrev pub nothing : Said
 nothing = record { course = course.nothing; head = None }
-
--- a text that begins as an answer, which is no kind of a base record, is one that later work reads
-abbrev pub answer_reason : Phase → Kind → Seg → Option SetReason
-answer_reason phases.Start kinds.Other seg = when (is_start_of forms.Answer seg) (reasons.NotYet (element_of seg 0))
-answer_reason _ _ seg = None
 
 -- the stated quantity is the sum of the lines' quantities
 abbrev pub quantity_reason : ℕ → ℕ → Option SetReason
@@ -56,8 +50,7 @@ own_reason m seg kind = course_reason m.course seg kind
 -- The first reason against a segment, behind what those before it say: none where it may stand there and is right.
 unfoldable pub reason_of : Said → Seg → Option SetReason
 reason_of m seg =
-    answer_reason m.course.phase (kind_of forms.Base seg) seg
-    or_else admission forms.Base m.course.phase (kind_of forms.Base seg) seg
+    admission forms.Base m.course.phase (kind_of forms.Base seg) seg
     or_else own_reason m seg (kind_of forms.Base seg)
 
 abbrev pub head_after : Kind → Head → Option Head → Option Head

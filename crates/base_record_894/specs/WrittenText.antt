@@ -1,14 +1,14 @@
 -- The text that is written of a base record: its rows, sealed with a control number, and why it is not written (this project's profile).
-use Rattle.std.specs.Prelude.{ℕ, nat_lt, List, [], ◌∷◌, ◌++◌, length, map, codes, Option, Some, None, Result, Ok, Err, if◌then◌else◌}
+use Rattle.std.specs.Prelude.{ℕ, List, [], ◌∷◌, ◌++◌, map, codes, Result, Ok, Err}
 use Rattle.block_check.specs.Crc16.{crc_of}
 use Rattle.dsd_values.specs.Spelling.{flag_text}
 use Rattle.dsd_values.specs.Writing.{day_text}
-use Rattle.dsd_values.specs.declared.limits.TheConstants.{SET_BYTES}
 use Rattle.dsd_pricing.specs.Pricing.{quantities, totals_of}
+use Rattle.dsd_pricing.specs.WholeText.{unless_too_long, whole}
 use Rattle.dsd_pricing.specs.declared.amounts.Totals.{Totals}
 use Rattle.dsd_pricing.specs.declared.fault.PriceFault.{PriceFault}
 use Rattle.dsd_pricing.specs.declared.fault.WriteFault.{WriteFault}
-use Rattle.dsd_pricing.specs.declared.fault.WriteFault.TheVariants.{LongSegment, LongSet, Price}
+use Rattle.dsd_pricing.specs.declared.fault.WriteFault.TheVariants.{Price}
 use Rattle.segments.specs.RowsWritten.{first_long}
 use Rattle.segments.specs.SegmentWriting.{text_of}
 use Rattle.segments.specs.SetWriting.{Row, body_rows, control_text, kept_row, row_of, sealed, start_row}
@@ -45,16 +45,6 @@ abbrev pub seal_of : BaseRecord → ℕ → Seal
 seal_of base control = record { control = control_text control; check = crc_of (text_of (opened_rows base control)) }
 
 -- ---- what is answered
-
--- the text where none of its segments is too long, else the length of the first that is
-abbrev pub unless_too_long : Option ℕ → List ℕ → Result (List ℕ) WriteFault
-unless_too_long (Some size) text = Err (LongSegment size)
-unless_too_long None text = Ok text
-
--- a text of no more bytes than a set may have
-abbrev pub whole : Result (List ℕ) WriteFault → Result (List ℕ) WriteFault
-whole (Ok text) = if nat_lt SET_BYTES (length text) then Err (LongSet (length text)) else Ok text
-whole (Err fault) = Err fault
 
 -- the price comes first
 abbrev pub after_price : Result Totals PriceFault → Result (List ℕ) WriteFault → Result (List ℕ) WriteFault

@@ -166,7 +166,8 @@ impl Base {
 
     /// What stands at the level of the record.
     pub fn extras(&self) -> &Extras
-        ensures { result.now ≡ self.now.extras }
+        ensures value { result.now ≡ self.now.extras }
+        ensures spelled { IsBase self.now }
     {
         &self.extras
     }

@@ -3,7 +3,7 @@
 ghost use Rattle.std.specs.Prelude.{◌≡◌, ℕ, ◌+◌, ◌<◌, ◌≤◌, List, [], ◌∷◌, length, IfOk, OnOk, None, Some};
 ghost use Rattle.segments.specs.Reasons.{Says};
 ghost use Rattle.segments.specs.Refusal.{Answers, ended_at};
-ghost use Rattle.base_record_894.specs.Said.{nothing, answer_reason, own_reason, reason_of, rows_reason, kept_by, after, is_whole};
+ghost use Rattle.base_record_894.specs.Said.{nothing, own_reason, reason_of, rows_reason, kept_by, after, is_whole};
 ghost use Rattle.base_record_894.specs.ReadParts.{IsReadFrom};
 ghost use Rattle.segments.specs.declared.kind.Kind.TheVariants as kinds;
 
@@ -11,7 +11,7 @@ use crate::head::{Head, read_head};
 use crate::parts::Parts;
 use crate::rows::compare_totals;
 use dsd_values::{Memory, SET_BYTES};
-use segments::{Course, Form, Kind, Phase, Segment, SetFault, SetReason, at, is_start_of, not_yet};
+use segments::{Course, Form, Kind, Segment, SetFault, SetReason, at};
 use std::alloc::Global;
 use std::marker::Model;
 
@@ -51,20 +51,13 @@ impl Reader {
         ensures short { OnOk result (segment.now.start + length segment.now.bytes ≤ SET_BYTES) }
     {
         let kind = Kind::of(Form::Base, segment);
-        self.refuse_answer(kind, segment)?;
         let phase = self.course.admit(Form::Base, kind, segment)?;
-        self.keep(kind, segment)?;
-        self.course.advance(phase, segment);
-        Ok(())
-    }
-
-    /// Refuses a text that begins as an answer.
-    fn refuse_answer(&self, kind: Kind, segment: &Segment<'_>) -> Result<(), SetFault>
-        ensures { Says result segment.now.start (answer_reason self.now.course.phase kind segment.now) (λ _. Unit {0}) }
-    {
-        match (self.course.phase(), kind) {
-            (Phase::Start, Kind::Other) if is_start_of(Form::Answer, segment) => not_yet(segment),
-            _ => Ok(()),
+        match self.keep(kind, segment) {
+            Ok(()) => {
+                self.course.advance(phase, segment);
+                Ok(())
+            }
+            Err(fault) => Err(fault),
         }
     }
 
@@ -90,8 +83,10 @@ impl Reader {
         ensures { Says result segment.now.start (own_reason self.old segment.now kinds.Totals)
             (λ _. self.new ≡ kept_by self.old segment.now kinds.Totals self.old.course.phase self.old.course.count self.old.course.check) }
     {
-        self.course.keep(Kind::Totals, segment)?;
-        self.compare_totals(segment)
+        match self.course.keep(Kind::Totals, segment) {
+            Ok(()) => self.compare_totals(segment),
+            Err(fault) => Err(fault),
+        }
     }
 
     /// Refuses stated totals that are not those of the rows.

@@ -1,19 +1,19 @@
 //! Writing a base record.
 
-ghost use Rattle.std.specs.Prelude.{◌≡◌, ◌≢◌, ◌≤◌, [], ◌∷◌, All, IfOk, Err};
-ghost use Rattle.dsd_values.specs.Spelling.{flag_text};
+ghost use Rattle.std.specs.Prelude.{◌≢◌, ◌≤◌, [], ◌∷◌, All, IfOk, Err};
 ghost use Rattle.dsd_values.specs.Answers.{UnlessMemory};
+ghost use Rattle.dsd_pricing.specs.WholeText.{unless_too_long};
 ghost use Rattle.dsd_pricing.specs.declared.fault.PriceFault.{PriceFault as Unpriced};
 ghost use Rattle.segments.specs.RowsWritten.{after_writing, first_long, no_rows, text_after};
 ghost use Rattle.segments.specs.SegmentSpelling.{IsSegment};
 ghost use Rattle.segments.specs.SegmentWriting.{IsWrittenText, text_of};
 ghost use Rattle.base_record_894.specs.RecordText.{Is894, IsBase};
-ghost use Rattle.base_record_894.specs.WrittenText.{head_row, later_rows, opened_rows, rows_of, seal_of, unless_too_long, written_of};
+ghost use Rattle.base_record_894.specs.WrittenText.{head_row, later_rows, opened_rows, rows_of, seal_of, written_of};
 
 use crate::base::Base;
 use dsd_pricing::WriteFault;
-use dsd_values::{Flag, SET_BYTES, SetText, write_day};
-use segments::{Form, SegmentWriteFault, SetWriter, head_id};
+use dsd_values::{SET_BYTES, SetText, write_day};
+use segments::{Form, SegmentWriteFault, SetWriter, flag_letter, head_id};
 use std::alloc::Global;
 
 /// Writes a base record under this control number. It is read back as the same record.
@@ -107,13 +107,4 @@ fn head(writer: SetWriter, base: &Base) -> Result<SetWriter, SegmentWriteFault>
         ],
         base.tail().as_slice(),
     )
-}
-
-fn flag_letter(flag: Flag) -> u8
-    ensures { result ∷ [] ≡ flag_text flag }
-{
-    match flag {
-        Flag::Debit => b'D',
-        Flag::Credit => b'C',
-    }
 }

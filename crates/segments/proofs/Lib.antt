@@ -36,3 +36,4 @@ pub mod RowKinds
 pub mod RowsSay
 pub mod RowsShape
 pub mod SealedRows
+pub mod SetRows

@@ -96,10 +96,10 @@ long_rows rows more old fault e =
 
 -- ---- the answers of calls, one after another
 
-abbrev Answer : Type 0
+abbrev pub Answer : Type 0
 Answer = Result SetSoFar SegmentWriteFault
 
-abbrev Answers : Answer → Answer → Type 0
+abbrev pub Answers : Answer → Answer → Type 0
 Answers answer wanted = UnlessMemory Memory answer wanted
 
 pub was_written : (answer : Answer) (mid : SetSoFar) (wanted : Answer) → answer ≡ Ok mid → Answers answer wanted → Ok mid ≡ wanted

@@ -117,7 +117,7 @@ impl Course {
             Kind::LoopStart => self.loop_id = at(segment, read_loop_start(segment))?,
             Kind::Item => return self.keep_item(segment),
             Kind::LoopEnd => at(segment, loop_end(segment, &self.loop_id))?,
-            Kind::Totals => self.totals = at(segment, read_totals(segment))?,
+            Kind::Totals => return self.keep_totals(segment),
             Kind::Signature => self.signature = at(segment, read_signature(segment))?,
             Kind::Integrity => self.integrity = integrity(segment, self.check.value())?,
             Kind::Trailer => trailer(segment, &self.control, self.count + 1)?,
@@ -128,6 +128,19 @@ impl Course {
             Kind::Allowance => return self.keep_allowance(segment),
             Kind::LineNote | Kind::Note => return self.keep_note(segment),
             Kind::Head | Kind::Other => {}
+        }
+        Ok(())
+    }
+
+    /// Keeps the stated totals.
+    #[tactic(auto, unfolding(crate::specs::SoFar::kept))]
+    fn keep_totals(&mut self, segment: &Segment<'_>) -> Result<(), SetFault>
+        ensures { Says result segment.now.start (course_reason self.old segment.now Kind.Totals)
+            (λ _. self.new ≡ kept self.old segment.now Kind.Totals self.old.phase self.old.count self.old.check) }
+    {
+        match read_totals(segment) {
+            Ok(totals) => self.totals = totals,
+            Err(fault) => return at(segment, Err(fault)),
         }
         Ok(())
     }

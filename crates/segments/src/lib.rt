@@ -35,7 +35,7 @@ pub use item_fault::ItemFault;
 pub use kind::{Form, Kind, head_id, is_start_of};
 pub use laws::{order_is_the_grammar, segments_are_those_spelled, segments_stand_in_their_text};
 pub use phase::Phase;
-pub use refusing::{at, next_segment, not_yet, refuse};
+pub use refusing::{at, next_segment, refuse};
 pub use seal::Seal;
 pub use segment::{SEGMENT_BYTES, SEGMENT_ELEMENTS, Segment};
 pub use segment_fault::SegmentFault;
@@ -45,6 +45,7 @@ pub use segment_writer::SegmentWriter;
 pub use set_fault::{SetFault, SetReason};
 pub use set_writer::SetWriter;
 pub use stated::{Closed, StatedTotals};
+pub use texts::flag_letter;
 pub use writing_laws::written_segments_are_read;
 
 #[cfg(test)]

@@ -4,14 +4,12 @@ ghost use Rattle.std.specs.Prelude.{◌≡◌, Err, IfOk, IfSome};
 ghost use Rattle.segments.specs.Refusal.{segment_at};
 ghost use Rattle.segments.specs.SegmentCut.{left_after, next_of};
 ghost use Rattle.segments.specs.SegmentSpelling.{IsFront};
-ghost use Rattle.segments.specs.Views.{element_of};
 ghost use Rattle.segments.specs.Reasons.{at_segment};
 
 use crate::item_fault::ItemFault;
 use crate::segment::Segment;
 use crate::segment_reader::SegmentReader;
 use crate::set_fault::{SetFault, SetReason};
-use dsd_values::read_word;
 
 /// A refusal at this segment.
 pub fn refuse<T>(segment: &Segment<'_>, reason: SetReason) -> Result<T, SetFault>
@@ -33,16 +31,6 @@ pub fn at<T>(segment: &Segment<'_>, answer: Result<T, ItemFault>) -> Result<T, S
             refuse(segment, SetReason::Value { element, fault })
         }
         Err(ItemFault::Memory) => Err(SetFault::Memory),
-    }
-}
-
-/// The refusal of a segment that only later work reads.
-pub fn not_yet<T>(segment: &Segment<'_>) -> Result<T, SetFault>
-    ensures { result ≡ Err (SetFault.Refused segment.now.start (SetReason.NotYet (element_of segment.now 0))) }
-{
-    match read_word(segment.id()) {
-        Ok(id) => refuse(segment, SetReason::NotYet(id)),
-        Err(_) => unreachable!(),
     }
 }
 

@@ -4,7 +4,7 @@ ghost use Rattle.std.specs.Prelude.{◌≡◌};
 ghost use Rattle.segments.specs.declared.set_fault.SetFault.TheVariants.{Memory as WantOfMemory};
 
 use crate::segment_fault::SegmentFault;
-use dsd_values::{Check, DsdNumber, Memory, ValueFault, Word};
+use dsd_values::{Check, DsdNumber, Memory, ValueFault};
 
 /// Why a set is refused at a segment, in the order in which the reasons are asked.
 #[derive(Debug, Drop)]
@@ -13,8 +13,6 @@ pub enum SetReason {
     Segment(SegmentFault),
     /// The segment may not stand there, the text ends before SE, or bytes follow SE.
     Order,
-    /// The text begins as a set that only later work reads, with a segment of this id.
-    NotYet(Word),
     /// One line more than a delivery may have, one allowance more than a line or a record may have, or the segment ends
     /// past the most bytes of a set.
     Limit,

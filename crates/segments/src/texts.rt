@@ -1,14 +1,15 @@
-//! Texts of elements: control numbers, and values that may be left out.
+//! Texts of elements: control numbers, flags, and values that may be left out.
 
-ghost use Rattle.std.specs.Prelude.{◌≡◌};
+ghost use Rattle.std.specs.Prelude.{◌≡◌, [], ◌∷◌};
 ghost use Rattle.dsd_values.specs.Reading.{IsElementText};
+ghost use Rattle.dsd_values.specs.Spelling.{flag_text};
 ghost use Rattle.dsd_values.specs.Writing.{cost_text, number_text, percent_text};
 ghost use Rattle.segments.specs.SetWriting.{control_text, optional_text};
 
 use arrayvec::ArrayVec;
 use dsd_values::{
-    Cents, Cost, Percent, Quantity, write_cents, write_cost, write_percent, write_plain_number,
-    write_quantity,
+    Cents, Cost, Flag, Percent, Quantity, write_cents, write_cost, write_percent,
+    write_plain_number, write_quantity,
 };
 
 /// A control number in digits, at least four of them.
@@ -23,6 +24,16 @@ pub fn control_digits(control: u32) -> ArrayVec<u8, 24>
     }
     let _ = text.try_extend_from_slice(digits.as_slice());
     text
+}
+
+/// The one letter of a flag.
+pub fn flag_letter(flag: Flag) -> u8
+    ensures { result ∷ [] ≡ flag_text flag }
+{
+    match flag {
+        Flag::Debit => b'D',
+        Flag::Credit => b'C',
+    }
 }
 
 pub fn optional_cost(value: Option<Cost>) -> ArrayVec<u8, 24>

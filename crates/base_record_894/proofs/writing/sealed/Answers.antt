@@ -4,7 +4,7 @@ use Rattle.segments.specs.RowsWritten.{SetSoFar, after_writing}
 use Rattle.segments.specs.declared.segment_write_fault.SegmentWriteFault.TheVariants.{Memory}
 use Rattle.segments.proofs.Rows.{same_err}
 use Rattle.base_record_894.specs.WrittenText.{opened_rows}
-use Rattle.base_record_894.proofs.WrittenBack.{sealed_refused, sealed_text}
+use Rattle.segments.proofs.SetRows.{sealed_refused, sealed_text}
 use Rattle.base_record_894.proofs.writing.sealed.Goals as goal
 
 pub returns-in_err-opened-clause-exact : goal.returns-in_err-opened-clause-exact

@@ -3,7 +3,8 @@ use Rattle.segments.specs.RowsWritten.{first_long}
 use Rattle.segments.specs.SegmentWriting.{text_of}
 use Rattle.segments.proofs.Rows.{same_err}
 use Rattle.base_record_894.specs.WrittenText.{rows_of}
-use Rattle.base_record_894.proofs.WrittenBack.{answer_spelled, never_priced}
+use Rattle.dsd_pricing.proofs.WholeTexts.{never_priced}
+use Rattle.base_record_894.proofs.WrittenBack.{answer_spelled}
 use Rattle.base_record_894.proofs.writing.write_894.Goals as goal
 
 pub returns-in_err-text-clause-priced : goal.returns-in_err-text-clause-priced

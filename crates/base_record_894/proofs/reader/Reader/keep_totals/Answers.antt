@@ -1,6 +1,6 @@
 use Rattle.base_record_894.proofs.Totalled.{totals_kept}
 use Rattle.base_record_894.proofs.reader.Reader.keep_totals.Goals as goal
 
-pub returns : goal.returns
-returns c =
-    totals_kept c.compare_totals.result c.self.inside.course c.self.inside.head c.args.self.now c.keep.new.self c.args.segment.now c.self.view_is c.in_ok-keep.ensures.0 c.in_ok-keep.ensures.1 c.compare_totals.ensures
+pub returns-in-Ok : goal.returns-in-Ok
+returns-in-Ok c =
+    totals_kept c.compare_totals.result c.self.inside.course c.self.inside.head c.args.self.now c.keep.new.self c.args.segment.now c.self.view_is c.in-Ok.ensures.0 c.in-Ok.ensures.1 c.compare_totals.ensures

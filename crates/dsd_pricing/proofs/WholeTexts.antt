@@ -1,0 +1,48 @@
+-- The text of a set that is written, and why it is not.
+use Rattle.std.proofs.Common.{◌≡◌, ℕ, ◌≤◌, inl, inr, nat_lt, List, length, Option, Some, None, Result, Ok, Err, refl, sym, ◌∙◌, ap, arith}
+use Rattle.std.proofs.lemmas.Bool.{cases_Bool}
+use Rattle.std.proofs.lemmas.Bool.Decides.{nat_tests}
+use Rattle.dsd_values.specs.Answers.{UnlessMemory}
+use Rattle.dsd_values.specs.declared.limits.TheConstants.{SET_BYTES}
+use Rattle.dsd_pricing.specs.WholeText.{unless_too_long, whole}
+use Rattle.dsd_pricing.specs.declared.fault.PriceFault.{PriceFault}
+use Rattle.dsd_pricing.specs.declared.fault.WriteFault.{WriteFault}
+use Rattle.dsd_pricing.specs.declared.fault.WriteFault.TheVariants.{LongSegment, LongSet, Price, Memory}
+
+-- a text that is written: no segment is too long, and all of them are no more bytes than a set may have
+pub record IsWhole (long : Option ℕ) (all text : List ℕ) : Type 0 where
+  pub none : long ≡ None
+  pub same : all ≡ text
+  pub short : length text ≤ SET_BYTES
+
+pub whole_is : (long : Option ℕ) (all text : List ℕ) → whole (unless_too_long long all) ≡ Ok text → IsWhole long all text
+whole_is (Some size) all text e = cc
+whole_is None all text e =
+    elim (cases_Bool (nat_lt 262_144 (length all))) [
+      | inl long ↦ let no : Err (LongSet (length all)) ≡ Ok text = rw long at e in cc
+      | inr short ↦
+          let is : Ok all ≡ Ok text = rw short at e in
+          let same : all ≡ text = cc (is) in
+          let size = ap length same in
+          let few : length all ≤ 262_144 = grind (arith, nat_tests) in
+          record { none = refl; same = same; short = omega arith }
+    ]
+
+-- no segment is too long, or the first that is has this length
+pub none_long : (long : Option ℕ) (all text : List ℕ) → long ≡ None → text ≡ all → Ok text ≡ unless_too_long long all
+none_long long all text none same = ap (λ (t : List ℕ). Ok t) same ∙ ap (λ (l : Option ℕ). unless_too_long l all) (sym none)
+
+pub one_long : (long : Option ℕ) (all : List ℕ) (size : ℕ) → long ≡ Some size → Err (LongSegment size) ≡ unless_too_long long all
+one_long long all size some = ap (λ (l : Option ℕ). unless_too_long l all) (sym some)
+
+-- rows are not refused for a price
+pub never_priced : (long : Option ℕ) (text : List ℕ) (first answer : Result (List ℕ) WriteFault) (passed : WriteFault) → first ≡ Err passed → answer ≡ Err passed → UnlessMemory Memory first (unless_too_long long text) → (fault : PriceFault) → answer ≡ Err (Price fault) → ⊥
+never_priced long text first answer passed e f (inl none) fault g = let no : Err Memory ≡ Err (Price fault) = sym none ∙ e ∙ sym f ∙ g in cc
+never_priced (Some size) text first answer passed e f (inr is) fault g = let no : Err (LongSegment size) ≡ Err (Price fault) = sym is ∙ e ∙ sym f ∙ g in cc
+never_priced None text first answer passed e f (inr is) fault g = let no : Ok text ≡ Err (Price fault) = sym is ∙ e ∙ sym f ∙ g in cc
+
+-- the text that was answered is the one of all rows
+pub text_is : (long : Option ℕ) (all text : List ℕ) (answer : Result (List ℕ) WriteFault) → answer ≡ Ok text → UnlessMemory Memory answer (unless_too_long long all) → (long ≡ None) × (all ≡ text)
+text_is long all text answer e (inl none) = let no : Ok text ≡ Err Memory = sym e ∙ none in cc
+text_is (Some size) all text answer e (inr is) = let no : Ok text ≡ Err (LongSegment size) = sym e ∙ is in cc
+text_is None all text answer e (inr is) = let same : Ok text ≡ Ok all = sym e ∙ is in (refl, cc (same))
