@@ -2,3 +2,4 @@ pub mod Levels
 pub mod Moves
 pub mod FoundOnly
 pub mod OneAnswer
+pub mod WrittenBack

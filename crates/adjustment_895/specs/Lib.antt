@@ -5,3 +5,4 @@ pub mod AnswerText
 pub mod Said
 pub mod FirstRefusal
 pub mod ReadParts
+pub mod WrittenText

@@ -1,14 +1,18 @@
 //! An answer to a delivery.
 
-ghost use Rattle.std.specs.Prelude.{◌≡◌, ◌∷◌, [], length, None, Some, MatchOption};
-ghost use Rattle.adjustment_895.specs.Grammar.{has_none};
+ghost use Rattle.std.specs.Prelude.{◌≡◌, IfOk, None, Some, MatchOption};
+ghost use Rattle.adjustment_895.specs.Grammar.{has_none, notes as texts_of};
 ghost use Rattle.adjustment_895.specs.ReadParts.{answer_of, first_note as first_of, seal_of};
 ghost use Rattle.adjustment_895.specs.AnswerText.{IsAnswer};
+ghost use Rattle.adjustment_895.specs.WrittenText.{stated_totals};
 
 use crate::head::Head;
 use crate::parts::Parts;
-use dsd_values::{Cents, Check, DeliveryNumber, Flag, Kept, Level, Lines, Role, Signature, Word};
+use dsd_values::{
+    Cents, Check, DeliveryNumber, Flag, Kept, Level, Lines, Memory, Role, Signature, Word,
+};
 use segments::{Closed, Seal, StatedTotals};
+use std::alloc::Global;
 use std::marker::Model;
 
 /// An acknowledgement, or an adjustment with its lines: a value that some text of a set 895 spells, however long its segments are.
@@ -121,8 +125,16 @@ impl Answer895 {
         self.note.as_ref()
     }
 
+    /// The note of the head, or nothing.
+    pub(crate) fn notes(&self) -> &[Kept]
+        ensures { result.now ≡ texts_of self.now.note }
+    {
+        self.note.as_slice()
+    }
+
     pub fn lines(&self) -> &Lines
-        ensures { result.now ≡ self.now.lines }
+        ensures value { result.now ≡ self.now.lines }
+        ensures spelled { IsAnswer self.now }
     {
         &self.lines
     }
@@ -141,6 +153,14 @@ impl Answer895 {
         self.totals.amount
     }
 
+    /// The totals that it states.
+    pub(crate) fn stated(&self) -> StatedTotals
+        ensures value { result ≡ stated_totals self.now }
+        ensures spelled { IsAnswer self.now }
+    {
+        self.totals
+    }
+
     /// Carried, without effect on the amount.
     pub fn deposit(&self) -> Option<Cents>
         ensures { result ≡ self.now.deposit }
@@ -152,5 +172,27 @@ impl Answer895 {
         ensures { result.now ≡ self.now.signature }
     {
         &self.signature
+    }
+
+    /// An equal answer.
+    pub fn try_copy(&self, alloc: Global) -> Result<Answer895, Memory>
+        ensures { IfOk result (λ copy. copy ≡ self.now) }
+    {
+        Ok(Answer895 {
+            head: self.head.copy(),
+            note: copy_note(alloc, &self.note)?,
+            lines: self.lines.try_copy(alloc)?,
+            totals: self.totals,
+            signature: self.signature.copy(),
+        })
+    }
+}
+
+fn copy_note(alloc: Global, note: &Option<Kept>) -> Result<Option<Kept>, Memory>
+    ensures { IfOk result (λ copy. copy ≡ note.now) }
+{
+    match note {
+        Some(text) => Ok(Some(text.try_copy(alloc)?)),
+        None => Ok(None),
     }
 }

@@ -1,4 +1,4 @@
-//! Set 895, the acknowledgement or adjustment of a delivery: read with place and reason.
+//! Set 895, the acknowledgement or adjustment of a delivery: read with place and reason, and written.
 #![tactic(auto)]
 
 mod answer;
@@ -7,9 +7,13 @@ mod head;
 pub mod laws;
 mod parts;
 mod reader;
+mod writing;
+mod writing_laws;
 
 pub use answer::Answer895;
 pub use from_text::read_895;
+pub use writing::write_895;
+pub use writing_laws::written_is_read;
 
 #[cfg(test)]
 mod tests;

@@ -1,17 +1,20 @@
 //! The reader of an answer, pushed one segment at a time.
 
-ghost use Rattle.std.specs.Prelude.{◌≡◌, ◌+◌, ◌≤◌, length, IfOk, OnOk, None};
-ghost use Rattle.segments.specs.Reasons.{Says};
+ghost use Rattle.std.specs.Prelude.{◌≡◌, ◌+◌, ◌≤◌, length, IfOk, OnOk, None, Some};
+ghost use Rattle.segments.specs.Elements.{◌or_else◌};
+ghost use Rattle.segments.specs.Kinds.{next_phase};
+ghost use Rattle.segments.specs.Reasons.{Says, admission};
 ghost use Rattle.segments.specs.Refusal.{Answers, ended_at};
 ghost use Rattle.adjustment_895.specs.HeadTable.{head_in};
 ghost use Rattle.adjustment_895.specs.Said.{nothing, head_reason, level_in, level_reason, own_reason, reason_of, kept_by, after, is_whole};
 ghost use Rattle.adjustment_895.specs.ReadParts.{IsReadFrom};
+ghost use Rattle.segments.specs.declared.kind.Form.TheVariants as forms;
 ghost use Rattle.segments.specs.declared.kind.Kind.TheVariants as kinds;
 
 use crate::head::{Head, is_past_levels, read_head};
 use crate::parts::Parts;
 use dsd_values::{Memory, SET_BYTES};
-use segments::{Course, Form, Kind, Segment, SetFault, SetReason, at, refuse};
+use segments::{Course, Form, Kind, Phase, Segment, SetFault, SetReason, at, refuse};
 use std::alloc::Global;
 use std::marker::Model;
 
@@ -49,20 +52,26 @@ impl Reader {
         ensures short { OnOk result (segment.now.start + length segment.now.bytes ≤ SET_BYTES) }
     {
         let kind = Kind::of(Form::Answer, segment);
-        self.refuse_loop(kind, segment)?;
-        let phase = self.course.admit(Form::Answer, kind, segment)?;
-        self.keep(kind, segment)?;
-        self.course.advance(phase, segment);
-        Ok(())
+        let phase = self.admit(kind, segment)?;
+        match self.keep(kind, segment) {
+            Ok(()) => {
+                self.course.advance(phase, segment);
+                Ok(())
+            }
+            Err(fault) => Err(fault),
+        }
     }
 
-    /// Refuses a loop in an answer of level 0.
-    fn refuse_loop(&self, kind: Kind, segment: &Segment<'_>) -> Result<(), SetFault>
-        ensures { Says result segment.now.start (level_reason kind self.now.head) (λ _. Unit {0}) }
+    /// Whether such a segment may stand here, and what may come behind it: in an answer of level 0 no loop may.
+    #[tactic(auto, unfolding(segments::specs::Reasons::admission))]
+    fn admit(&self, kind: Kind, segment: &Segment<'_>) -> Result<Phase, SetFault>
+        ensures exact { Says result segment.now.start (level_reason kind self.now.head or_else admission forms.Answer self.now.course.phase kind segment.now)
+            (λ phase. next_phase self.now.course.phase kind forms.Answer ≡ Some phase) }
+        ensures short { OnOk result (segment.now.start + length segment.now.bytes ≤ SET_BYTES) }
     {
         match kind {
             Kind::LoopStart if self.level() == 0 => refuse(segment, SetReason::Order),
-            _ => Ok(()),
+            _ => self.course.admit(Form::Answer, kind, segment),
         }
     }
 

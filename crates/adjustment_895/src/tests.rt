@@ -3,6 +3,8 @@ use segments::{SetFault, SetReason};
 use std::alloc::Global;
 use std::test::Fail;
 
+mod writing;
+
 /// A receiver's adjustment of one line.
 const ADJUSTMENT: &str =
     "ST*895*0001\r\nG87*R*D*100001*C60A*1\r\nLS*0100\r\nG89*1*10*EA*012345678905****1.25\r\nLE*0100\r\nG84*13*1350\r\nG86*SMITH\r\nG85*DB48\r\nSE*9*0001\r\n";

@@ -1,0 +1,41 @@
+use Rattle.std.proofs.Common.{sym, subst, List, ℕ, map}
+use Rattle.std.specs.List.{All}
+use Rattle.dsd_values.specs.Answers.{UnlessMemory}
+use Rattle.segments.specs.RowsWritten.{after_writing}
+use Rattle.segments.specs.SegmentSpelling.{IsSegment}
+use Rattle.segments.specs.SetWriting.{kept_row, start_row}
+use Rattle.segments.specs.declared.kind.Form.TheVariants as forms
+use Rattle.segments.specs.declared.segment_write_fault.SegmentWriteFault.TheVariants.{Memory}
+use Rattle.segments.proofs.Rows.{same_err}
+use Rattle.segments.proofs.SetRows.{all_written, references_refused}
+use Rattle.adjustment_895.specs.WrittenText.{head_row, later_rows, note_rows}
+use Rattle.adjustment_895.proofs.WrittenBack.{asked}
+use Rattle.adjustment_895.proofs.writing.opened.Goals as goal
+
+pub start-requires : goal.start-requires
+start-requires c = (asked c.args.answer.now c.args.control c.requires c.stated.ensures.spelled).start
+
+pub head-requires : goal.head-requires
+head-requires c = (asked c.args.answer.now c.args.control c.requires c.stated.ensures.spelled).head
+
+pub references-requires : goal.references-requires
+references-requires c =
+    subst (λ (texts : List (List ℕ)). All IsSegment (map kept_row texts)) (sym c.notes.ensures)
+    (asked c.args.answer.now c.args.control c.requires c.stated.ensures.spelled).references
+
+pub returns-in_err-references-clause-exact : goal.returns-in_err-references-clause-exact
+returns-in_err-references-clause-exact c =
+    let answer = c.args.answer.now in
+    let written = subst (λ (texts : List (List ℕ)). UnlessMemory Memory c.references.result (after_writing (map kept_row texts) c.in_ok-writer.writer)) c.notes.ensures c.references.ensures in
+    references_refused (start_row forms.Answer c.args.control) (head_row answer) (note_rows answer) (later_rows answer) c.args.writer c.in_ok-start.field-0 c.in_ok-writer.writer _ _ c.in_ok-start.was c.start.ensures c.in_ok-writer.was c.head.ensures
+    _ _ _ c.in_err-references.was (same_err _ _ c.from_residual-in_err-references.ensures) written
+
+pub later-requires : goal.later-requires
+later-requires c = (asked c.args.answer.now c.args.control c.requires c.stated.ensures.spelled).later
+
+pub returns-clause-exact : goal.returns-clause-exact
+returns-clause-exact c =
+    let answer = c.args.answer.now in
+    let written = subst (λ (texts : List (List ℕ)). UnlessMemory Memory c.references.result (after_writing (map kept_row texts) c.in_ok-writer.writer)) c.notes.ensures c.references.ensures in
+    all_written (start_row forms.Answer c.args.control) (head_row answer) (note_rows answer) (later_rows answer) c.args.writer c.in_ok-start.field-0 c.in_ok-writer.writer _ _ c.in_ok-start.was c.start.ensures c.in_ok-writer.was c.head.ensures
+    _ _ c.in_ok-references.field-0 c.in_ok-references.was written c.later.ensures
