@@ -1,0 +1,9 @@
+pub mod KindsById
+pub mod FirstSegments
+pub mod Sets
+pub mod Changed
+pub mod Sounding
+pub mod AfterChanges
+pub mod Versions
+pub mod Faults
+pub mod Chains

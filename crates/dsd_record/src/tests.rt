@@ -1,0 +1,5 @@
+use super::*;
+
+mod choosing;
+mod sets;
+mod versions;
