@@ -1,0 +1,11 @@
+pub mod Telling
+pub mod Steps
+pub mod Transmitted
+pub mod Found
+pub mod Enveloped
+pub mod Lines
+pub mod Shifted
+pub mod Units
+pub mod SentRead
+pub mod Worked
+pub mod Standing

@@ -1,0 +1,6 @@
+pub mod Views
+pub mod EnvelopeTable
+pub mod FirstFault
+pub mod Transmission
+pub mod SetsLeft
+pub mod Sending

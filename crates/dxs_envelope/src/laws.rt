@@ -1,0 +1,32 @@
+//! Laws of the definitions, each on a function that does nothing.
+
+ghost use Rattle.std.specs.Prelude.{All, List, None, Some, length, ℕ, ◌↔◌, ◌≡◌};
+ghost use Rattle.segments.specs.SegmentWriting.{line_of};
+ghost use Rattle.dxs_envelope.specs.FirstFault.{first_fault, told_of};
+ghost use Rattle.dxs_envelope.specs.Sending.{IsInUnits, Sent, header_row, placed};
+ghost use Rattle.dxs_envelope.specs.Transmission.{Envelope, StandsIn};
+ghost use Rattle.dxs_envelope.specs.Views.{SetAt};
+ghost use Rattle.dxs_envelope.specs.declared.fault.EnvelopeFault.{EnvelopeFault as FaultValue};
+
+/// A text is a transmission of some sets, which are those that are told of it, or it has a first fault, and never both.
+pub fn sets_are_told()
+    ensures told { (text : List ℕ) (sets : List SetAt) → Envelope sets text ↔ (told_of text ≡ record { sets = sets; fault = None }) }
+    ensures one { (text : List ℕ) (a b : List SetAt) → Envelope a text → Envelope b text → a ≡ b }
+    ensures right { (text : List ℕ) → (first_fault text ≡ None) ↔ ((sets : List SetAt) × Envelope sets text) }
+    ensures wrong { (text : List ℕ) (sets : List SetAt) (fault : FaultValue) → first_fault text ≡ Some fault → Envelope sets text → ⊥ }
+{}
+
+/// Each set that is told of a text, up to a fault too, is one and stands in the text at its start.
+pub fn sets_stand_in_their_text()
+    ensures { (text : List ℕ) → All (StandsIn text) (told_of text).sets }
+{}
+
+/// What is written is a transmission of the sets that were handed in, one behind another from the end of the header on, and
+/// there is one list of sets of which a text is written. It is whole units of the line.
+pub fn written_sets_are_read()
+    ensures read { (text : List ℕ) (sets : List (List ℕ)) (sender receiver : List ℕ) (control : ℕ) → Sent sets sender receiver control text
+        → Envelope (placed (length (line_of (header_row sender receiver control))) sets) text }
+    ensures one { (text : List ℕ) (a b : List (List ℕ)) (sender sender' receiver receiver' : List ℕ) (control control' : ℕ)
+        → Sent a sender receiver control text → Sent b sender' receiver' control' text → a ≡ b }
+    ensures units { (text : List ℕ) (sets : List (List ℕ)) (sender receiver : List ℕ) (control : ℕ) → Sent sets sender receiver control text → IsInUnits text }
+{}

@@ -1,0 +1,21 @@
+//! The envelope round the sets of a transmission: its sets, read one after another, and the text of a transmission.
+#![tactic(auto)]
+
+mod fault;
+mod laws;
+mod outgoing;
+mod sets;
+mod slice;
+mod stage;
+mod table;
+mod writing;
+
+pub use fault::{EnvelopeFault, EnvelopeReason};
+pub use laws::{sets_are_told, sets_stand_in_their_text, written_sets_are_read};
+pub use outgoing::{EnvelopeWriteFault, Outgoing, TRANSMISSION_BYTES};
+pub use sets::Sets;
+pub use slice::SetSlice;
+pub use writing::write_transmission;
+
+#[cfg(test)]
+mod tests;
