@@ -1,5 +1,5 @@
 -- Words spell at most one job.
-use Rattle.std.proofs.Common.{◌≡◌, ℕ, List, get_or, refl, sym, ap, ◌∙◌, arith}
+use Rattle.std.proofs.Common.{◌≡◌, ℕ, List, [], get_or, refl, sym, ap, ◌∙◌, arith}
 use Rattle.dsd_values.specs.declared.role.Role.{Role}
 use Rattle.dsd_values.specs.declared.role.Role.TheVariants.{Supplier, Receiver}
 use Rattle.dsd_journal.specs.declared.header.Header.{Header}
@@ -11,10 +11,19 @@ use Rattle.dex_cli.specs.declared.words.Job.TheVariants as jobs
 use Rattle.dex_cli.specs.declared.words.CheckKind.{CheckKind}
 use Rattle.dex_cli.specs.declared.words.CheckKind.TheVariants as checks
 
+-- the first letter of the second word
+abbrev kind_letter : List (List ℕ) → ℕ
+kind_letter words = get_or (get_or words 1 []) 0 0
+
 pub one_kind : (kind other : CheckKind) → check_words kind ≡ check_words other → kind ≡ other
 one_kind checks.Set checks.Set e = refl
-one_kind checks.Set checks.Line e = cc
-one_kind checks.Line checks.Set e = cc
+one_kind checks.Set checks.Text e = let never : 115 ≡ 116 = ap kind_letter e in absurd (omega (arith, never))
+one_kind checks.Set checks.Line e = let never : 115 ≡ 108 = ap kind_letter e in absurd (omega (arith, never))
+one_kind checks.Text checks.Set e = let never : 116 ≡ 115 = ap kind_letter e in absurd (omega (arith, never))
+one_kind checks.Text checks.Text e = refl
+one_kind checks.Text checks.Line e = let never : 116 ≡ 108 = ap kind_letter e in absurd (omega (arith, never))
+one_kind checks.Line checks.Set e = let never : 108 ≡ 115 = ap kind_letter e in absurd (omega (arith, never))
+one_kind checks.Line checks.Text e = let never : 108 ≡ 116 = ap kind_letter e in absurd (omega (arith, never))
 one_kind checks.Line checks.Line e = refl
 
 one_role : (role other : Role) → role_word role ≡ role_word other → role ≡ other
@@ -42,6 +51,7 @@ one_new new other e =
 
 pub check_is_format : (kind : CheckKind) (new : NewJournal) → check_words kind ≡ format_words new → ⊥
 check_is_format checks.Set new e = cc
+check_is_format checks.Text new e = cc
 check_is_format checks.Line new e = cc
 
 pub one_job : (words : List (List ℕ)) (one other : Job) → Spells one words → Spells other words → one ≡ other

@@ -1,12 +1,18 @@
 -- Words and bytes leave one status.
-use Rattle.std.proofs.Common.{◌≡◌, ◌≢◌, ℕ, ◌<◌, ◌≤◌, ◌⊎◌, inl, inr, List, [], ◌++◌, length, Some, refl, sym, ap, ◌∙◌, subst, arith, append-nil, length-append, if◌then◌else◌}
+use Rattle.std.proofs.Common.{◌≡◌, ◌≢◌, ℕ, ◌<◌, ◌≤◌, ◌⊎◌, inl, inr, List, [], ◌∷◌, ◌++◌, length, Option, Some, None, refl, sym, ap, ◌∙◌, subst, arith, append-nil, length-append, if◌then◌else◌}
 use Rattle.std.proofs.lemmas.Bool.{cases_lt}
-use Rattle.base_record_894.specs.BaseRecord.{BaseRecord}
-use Rattle.base_record_894.specs.RecordText.{Is894}
-use Rattle.segments.specs.declared.seal.Seal.{Seal}
+use Rattle.dsd_record.specs.SetTexts.{IsSet}
+use Rattle.dsd_record.specs.declared.set_view.SetView.{SetView}
+use Rattle.dxs_envelope.specs.FirstFault.{told_of}
+use Rattle.dxs_envelope.specs.Views.{SetAt}
+use Rattle.dxs_envelope.specs.declared.fault.EnvelopeFault.{EnvelopeFault}
+use Rattle.dex_cli.specs.Summaries.{SumsUp}
+use Rattle.dex_cli.specs.declared.summary.SetSummary.{SetSummary}
+use Rattle.dex_cli.specs.declared.text_summary.TextEnding.{TextEnding}
+use Rattle.dex_cli.specs.declared.text_summary.TextEnding.TheVariants as endings
 use Rattle.dex_cli.specs.Words.{Spells}
 use Rattle.dex_cli.specs.Formatting.{Served, Formats}
-use Rattle.dex_cli.specs.Answers.{IsInput, ChecksSet, ChecksLine, Read, IsChecked, Does, MayAnswer, has_refused, status_of}
+use Rattle.dex_cli.specs.Answers.{IsInput, ChecksSet, ChecksText, ChecksLine, Read, IsChecked, Does, MayAnswer, has_refused, status_at, status_of}
 use Rattle.dex_cli.specs.declared.answer.Answer.{Answer}
 use Rattle.dex_cli.specs.declared.answer.Answer.TheVariants as answers
 use Rattle.dex_cli.specs.declared.job.TheConstants.{INPUT_BYTES}
@@ -47,10 +53,10 @@ inputs left after after' input input' one other = elim (cases_lt INPUT_BYTES (le
 -- ---- one status of each job to an input
 
 abbrev IsBad : List ℕ → Type 0
-IsBad input = (base : BaseRecord) (seal : Seal) → Is894 base seal input → ⊥
+IsBad input = (set : SetView) → IsSet set input → ⊥
 
 abbrev IsGood : List ℕ → Type 0
-IsGood input = (base : BaseRecord) × (seal : Seal) × Is894 base seal input
+IsGood input = (set : SetView) × IsSet set input
 
 set_verdict : (input : List ℕ) (a : Answer) → ChecksSet input a
     → (((INPUT_BYTES < length input) ⊎ IsBad input) × (status_of a ≡ INPUT_REFUSED)) ⊎ ((length input ≤ INPUT_BYTES) × IsGood input × (status_of a ≡ DONE))
@@ -58,11 +64,51 @@ set_verdict input answers.Words c = absurd c
 set_verdict input answers.SourceFault c = absurd c
 set_verdict input answers.StationFault c = absurd c
 set_verdict input (answers.Refused place reason) (inl long) = inl (inl long.long, refl)
-set_verdict input (answers.Refused place reason) (inr refused) = inl (inr refused.none, refl)
-set_verdict input (answers.Set summary) (short, is) = inr (short, (summary.base, summary.seal, is), refl)
+set_verdict input (answers.Refused place reason) (inr refused) = inl (inr refused.1.none, refl)
+set_verdict input (answers.Set summary) (short, is) = inr (short, (is.set, is.spelled), refl)
+set_verdict input (answers.Text text) c = absurd c
 set_verdict input (answers.Line captured) c = absurd c
 set_verdict input answers.Formatted c = absurd c
 set_verdict input (answers.NotEmpty size) c = absurd c
+
+-- each set is right, and the transmission has no fault
+abbrev AllGood : List SetAt → Option EnvelopeFault → Type 0
+AllGood [] None = Unit {0}
+AllGood [] (Some fault) = ⊥
+AllGood (set ∷ sets) fault = IsGood set.bytes × AllGood sets fault
+
+text_ends : (sets : List SetAt) (fault : Option EnvelopeFault) (summaries : List SetSummary) (ending : TextEnding) → SumsUp sets fault summaries ending
+    → (AllGood sets fault × (status_at ending ≡ DONE)) ⊎ ((AllGood sets fault → ⊥) × (status_at ending ≡ INPUT_REFUSED))
+text_ends [] None [] endings.Whole up = inl (tt, refl)
+text_ends [] None [] (endings.Envelope told) up = absurd up
+text_ends [] None [] (endings.Set place reason) up = absurd up
+text_ends [] (Some fault) [] endings.Whole up = absurd up
+text_ends [] (Some fault) [] (endings.Envelope told) up = inr (λ good. good, refl)
+text_ends [] (Some fault) [] (endings.Set place reason) up = absurd up
+text_ends (set ∷ sets) fault [] endings.Whole up = absurd up
+text_ends (set ∷ sets) fault [] (endings.Envelope told) up = absurd up
+text_ends (set ∷ sets) fault [] (endings.Set place reason) up = inr (λ good. up.no_set.none good.0.0 good.0.1, refl)
+text_ends [] fault (summary ∷ summaries) ending up = absurd up
+text_ends (set ∷ sets) fault (summary ∷ summaries) ending (is, up) = elim (text_ends sets fault summaries ending up) [
+  | inl whole ↦ inl (((is.set, is.spelled), whole.0), whole.1)
+  | inr broken ↦ inr (λ good. broken.0 good.1, broken.1)
+]
+
+abbrev IsGoodText : List ℕ → Type 0
+IsGoodText input = AllGood (told_of input).sets (told_of input).fault
+
+text_verdict : (input : List ℕ) (a : Answer) → ChecksText input a
+    → ((INPUT_BYTES < length input) × (status_of a ≡ INPUT_REFUSED))
+    ⊎ ((length input ≤ INPUT_BYTES) × ((IsGoodText input × (status_of a ≡ DONE)) ⊎ ((IsGoodText input → ⊥) × (status_of a ≡ INPUT_REFUSED))))
+text_verdict input answers.Words c = absurd c
+text_verdict input answers.SourceFault c = absurd c
+text_verdict input answers.StationFault c = absurd c
+text_verdict input (answers.Refused place reason) long = inl (long.long, refl)
+text_verdict input (answers.Set summary) c = absurd c
+text_verdict input (answers.Text text) (short, up) = inr (short, text_ends (told_of input).sets (told_of input).fault text.sets.items text.ending up)
+text_verdict input (answers.Line captured) c = absurd c
+text_verdict input answers.Formatted c = absurd c
+text_verdict input (answers.NotEmpty size) c = absurd c
 
 line_verdict : (input : List ℕ) (a : Answer) → ChecksLine input a
     → ((INPUT_BYTES < length input) × (status_of a ≡ INPUT_REFUSED)) ⊎ ((length input ≤ INPUT_BYTES) × (status_of a ≡ (if has_refused input then INPUT_REFUSED else DONE)))
@@ -71,6 +117,7 @@ line_verdict input answers.SourceFault c = absurd c
 line_verdict input answers.StationFault c = absurd c
 line_verdict input (answers.Refused place reason) long = inl (long.long, refl)
 line_verdict input (answers.Set summary) c = absurd c
+line_verdict input (answers.Text text) c = absurd c
 line_verdict input (answers.Line captured) (short, same) = inr (short, ap (λ (bytes : List ℕ). if has_refused bytes then INPUT_REFUSED else DONE) same)
 line_verdict input answers.Formatted c = absurd c
 line_verdict input (answers.NotEmpty size) c = absurd c
@@ -79,17 +126,33 @@ line_verdict input (answers.NotEmpty size) c = absurd c
 set_long : (input : List ℕ) (a : Answer) → INPUT_BYTES < length input → ChecksSet input a → status_of a ≡ INPUT_REFUSED
 set_long input a long c = elim (set_verdict input a c) [ inl bad ↦ bad.1 | inr good ↦ absurd (omega (arith, long, good.0)) ]
 
+text_long : (input : List ℕ) (a : Answer) → INPUT_BYTES < length input → ChecksText input a → status_of a ≡ INPUT_REFUSED
+text_long input a long c = elim (text_verdict input a c) [ inl bad ↦ bad.1 | inr good ↦ absurd (omega (arith, long, good.0)) ]
+
 line_long : (input : List ℕ) (a : Answer) → INPUT_BYTES < length input → ChecksLine input a → status_of a ≡ INPUT_REFUSED
 line_long input a long c = elim (line_verdict input a c) [ inl bad ↦ bad.1 | inr good ↦ absurd (omega (arith, long, good.0)) ]
 
 bad_apart : (input : List ℕ) → (INPUT_BYTES < length input) ⊎ IsBad input → length input ≤ INPUT_BYTES → IsGood input → ⊥
 bad_apart input (inl long) short good = absurd (omega (arith, long, short))
-bad_apart input (inr bad) short good = bad good.0 good.1 good.2
+bad_apart input (inr bad) short good = bad good.0 good.1
 
 set_one : (input : List ℕ) (a b : Answer) → ChecksSet input a → ChecksSet input b → status_of a ≡ status_of b
 set_one input a b c d = elim (set_verdict input a c) [
   | inl bad ↦ elim (set_verdict input b d) [ inl bad' ↦ bad.1 ∙ sym bad'.1 | inr good' ↦ absurd (bad_apart input bad.0 good'.0 good'.1) ]
   | inr good ↦ elim (set_verdict input b d) [ inl bad' ↦ absurd (bad_apart input bad'.0 good.0 good.1) | inr good' ↦ good.2 ∙ sym good'.2 ]
+]
+
+short_text : (input : List ℕ) (a b : Answer) → (IsGoodText input × (status_of a ≡ DONE)) ⊎ ((IsGoodText input → ⊥) × (status_of a ≡ INPUT_REFUSED))
+    → (IsGoodText input × (status_of b ≡ DONE)) ⊎ ((IsGoodText input → ⊥) × (status_of b ≡ INPUT_REFUSED)) → status_of a ≡ status_of b
+short_text input a b (inl good) (inl good') = good.1 ∙ sym good'.1
+short_text input a b (inl good) (inr bad) = absurd (bad.0 good.0)
+short_text input a b (inr bad) (inl good) = absurd (bad.0 good.0)
+short_text input a b (inr bad) (inr bad') = bad.1 ∙ sym bad'.1
+
+text_one : (input : List ℕ) (a b : Answer) → ChecksText input a → ChecksText input b → status_of a ≡ status_of b
+text_one input a b c d = elim (text_verdict input a c) [
+  | inl long ↦ long.1 ∙ sym (text_long input b long.0 d)
+  | inr short ↦ elim (text_verdict input b d) [ inl long' ↦ absurd (omega (arith, short.0, long'.0)) | inr short' ↦ short_text input a b short.1 short'.1 ]
 ]
 
 line_one : (input : List ℕ) (a b : Answer) → ChecksLine input a → ChecksLine input b → status_of a ≡ status_of b
@@ -113,6 +176,12 @@ module _ (left after after' : List ℕ) (faults now now' : ℕ) (one other : Ser
     | inr long ↦ set_long x.input a long.0 x.checks ∙ sym (set_long y.input b long.1 y.checks)
   ]
 
+  text_job : IsChecked checks.Text read a → IsChecked checks.Text read' b → status_of a ≡ status_of b
+  text_job x y = elim (inputs left after after' x.input y.input x.read_is y.read_is) [
+    | inl same ↦ text_one y.input a b (subst (λ (t : List ℕ). ChecksText t a) same x.checks) y.checks
+    | inr long ↦ text_long x.input a long.0 x.checks ∙ sym (text_long y.input b long.1 y.checks)
+  ]
+
   line_job : IsChecked checks.Line read a → IsChecked checks.Line read' b → status_of a ≡ status_of b
   line_job x y = elim (inputs left after after' x.input y.input x.read_is y.read_is) [
     | inl same ↦ line_one y.input a b (subst (λ (t : List ℕ). ChecksLine t a) same x.checks) y.checks
@@ -123,6 +192,7 @@ module _ (left after after' : List ℕ) (faults now now' : ℕ) (one other : Ser
   check_job kind (inl unread) q f g = absurd (f unread.answer_is)
   check_job kind (inr x) (inl unread) f g = absurd (g unread.answer_is)
   check_job checks.Set (inr x) (inr y) f g = set_job x y
+  check_job checks.Text (inr x) (inr y) f g = text_job x y
   check_job checks.Line (inr x) (inr y) f g = line_job x y
 
 -- an empty journal is made, and any other is not
@@ -133,12 +203,14 @@ format_job new new' one other answers.SourceFault b same p q f g = absurd p
 format_job new new' one other answers.StationFault b same p q f g = absurd (f refl)
 format_job new new' one other (answers.Refused place reason) b same p q f g = absurd p
 format_job new new' one other (answers.Set summary) b same p q f g = absurd p
+format_job new new' one other (answers.Text text) b same p q f g = absurd p
 format_job new new' one other (answers.Line captured) b same p q f g = absurd p
 format_job new new' one other answers.Formatted answers.Words same p q f g = absurd q
 format_job new new' one other answers.Formatted answers.SourceFault same p q f g = absurd q
 format_job new new' one other answers.Formatted answers.StationFault same p q f g = absurd (g refl)
 format_job new new' one other answers.Formatted (answers.Refused place reason) same p q f g = absurd q
 format_job new new' one other answers.Formatted (answers.Set summary) same p q f g = absurd q
+format_job new new' one other answers.Formatted (answers.Text text) same p q f g = absurd q
 format_job new new' one other answers.Formatted (answers.Line captured) same p q f g = absurd q
 format_job new new' one other answers.Formatted answers.Formatted same p q f g = refl
 format_job new new' one other answers.Formatted (answers.NotEmpty size) same p q f g =
@@ -150,6 +222,7 @@ format_job new new' one other (answers.NotEmpty size) answers.SourceFault same p
 format_job new new' one other (answers.NotEmpty size) answers.StationFault same p q f g = absurd (g refl)
 format_job new new' one other (answers.NotEmpty size) (answers.Refused place reason) same p q f g = absurd q
 format_job new new' one other (answers.NotEmpty size) (answers.Set summary) same p q f g = absurd q
+format_job new new' one other (answers.NotEmpty size) (answers.Text text) same p q f g = absurd q
 format_job new new' one other (answers.NotEmpty size) (answers.Line captured) same p q f g = absurd q
 format_job new new' one other (answers.NotEmpty size) answers.Formatted same p q f g =
     let made = q tt in
@@ -164,10 +237,10 @@ module _ (words : List (List ℕ)) (left after after' : List ℕ) (faults now no
   by_jobs (jobs.Format new) (jobs.Format new') s t p q = format_job new new' one other a b same p.1 q.1 f' g'
   by_jobs (jobs.Format new) (jobs.Check kind) s t p q = absurd (check_is_format kind new (sym t ∙ s.words_are))
   by_jobs (jobs.Check kind) (jobs.Format new) s t p q = absurd (check_is_format kind new (sym s ∙ t.words_are))
-  by_jobs (jobs.Check checks.Set) (jobs.Check checks.Set) s t p q = check_job left after after' faults now now' one other a b checks.Set p q f g
-  by_jobs (jobs.Check checks.Line) (jobs.Check checks.Line) s t p q = check_job left after after' faults now now' one other a b checks.Line p q f g
-  by_jobs (jobs.Check checks.Set) (jobs.Check checks.Line) s t p q = let never = one_kind checks.Set checks.Line (sym s ∙ t) in cc
-  by_jobs (jobs.Check checks.Line) (jobs.Check checks.Set) s t p q = let never = one_kind checks.Line checks.Set (sym s ∙ t) in cc
+  by_jobs (jobs.Check kind) (jobs.Check kind') s t p q =
+      let same_kind : kind' ≡ kind = one_kind kind' kind (sym t ∙ s) in
+      check_job left after after' faults now now' one other a b kind p
+      (subst (λ (k : CheckKind). Does (Unit {0}) (jobs.Check k) (read' left after after' faults now now' one other a b) other b) same_kind q) f g
 
   by_words : MayAnswer (Unit {0}) words (read left after after' faults now now' one other a b) one a → MayAnswer (Unit {0}) words (read' left after after' faults now now' one other a b) other b
       → status_of a ≡ status_of b

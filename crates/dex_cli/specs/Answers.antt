@@ -1,20 +1,20 @@
 -- Which answers may come of which words and input, and their statuses.
-use Rattle.std.specs.Prelude.{◌≡◌, ◌⊎◌, ℕ, Bool, if◌then◌else◌, ◌<◌, ◌≤◌, List, length, Option, Some}
+use Rattle.std.specs.Prelude.{◌≡◌, ◌⊎◌, ℕ, Bool, if◌then◌else◌, ◌<◌, ◌≤◌, List, length, Option}
 use Rattle.std.specs.Io.KnownBytes.{Consumes, IsAtEnd}
 use Rattle.std.specs.List.{list_any}
 use Rattle.dsd_station.specs.Causes.{Rose}
 use Rattle.dex_line.specs.Captured.{frames_in, is_refused}
-use Rattle.segments.specs.declared.seal.Seal.{Seal}
 use Rattle.segments.specs.declared.set_fault.SetReason.{SetReason}
 use Rattle.segments.specs.declared.set_fault.SetReason.TheVariants as reasons
-use Rattle.base_record_894.specs.BaseRecord.{BaseRecord}
-use Rattle.base_record_894.specs.RecordText.{Is894}
-use Rattle.base_record_894.specs.FirstRefusal.{refusal_of}
+use Rattle.dxs_envelope.specs.FirstFault.{told_of}
+use Rattle.dex_cli.specs.Summaries.{IsNoSet, IsSummary, IsSummedUp}
 use Rattle.dex_cli.specs.Words.{Spells}
 use Rattle.dex_cli.specs.Formatting.{Served, Formats}
 use Rattle.dex_cli.specs.declared.answer.Answer.{Answer}
 use Rattle.dex_cli.specs.declared.answer.Answer.TheVariants as answers
 use Rattle.dex_cli.specs.declared.job.TheConstants.{INPUT_BYTES}
+use Rattle.dex_cli.specs.declared.text_summary.TextEnding.{TextEnding}
+use Rattle.dex_cli.specs.declared.text_summary.TextEnding.TheVariants as endings
 use Rattle.dex_cli.specs.declared.status.TheConstants.{DONE, WORDS_REFUSED, INPUT_REFUSED, SOURCE_FAILED, STATION_FAILED, JOURNAL_REFUSED}
 use Rattle.dex_cli.specs.declared.words.Job.{Job}
 use Rattle.dex_cli.specs.declared.words.Job.TheVariants as jobs
@@ -33,23 +33,29 @@ pub record IsTooLong (input : List ℕ) (place : ℕ) (reason : SetReason) : Typ
   pub place_is : place ≡ INPUT_BYTES
   pub reason_is : reason ≡ reasons.Limit
 
--- no record is spelled by the text, and this is its first refusal
-pub record IsRefused (input : List ℕ) (place : ℕ) (reason : SetReason) : Type 0 where
-  pub short : length input ≤ INPUT_BYTES
-  pub first : refusal_of input ≡ Some (record { place = place; reason = reason })
-  pub none : (base : BaseRecord) (seal : Seal) → Is894 base seal input → ⊥
-  pub within : place ≤ length input
-
 -- What `check set` answers to an input.
 abbrev pub ChecksSet : List ℕ → Answer → Type 0
 ChecksSet input answers.Words = ⊥
 ChecksSet input answers.SourceFault = ⊥
 ChecksSet input answers.StationFault = ⊥
-ChecksSet input (answers.Refused place reason) = IsTooLong input place reason ⊎ IsRefused input place reason
-ChecksSet input (answers.Set summary) = (length input ≤ INPUT_BYTES) × Is894 summary.base summary.seal input
+ChecksSet input (answers.Refused place reason) = IsTooLong input place reason ⊎ ((length input ≤ INPUT_BYTES) × IsNoSet input place reason)
+ChecksSet input (answers.Set summary) = (length input ≤ INPUT_BYTES) × IsSummary input summary
+ChecksSet input (answers.Text text) = ⊥
 ChecksSet input (answers.Line captured) = ⊥
 ChecksSet input answers.Formatted = ⊥
 ChecksSet input (answers.NotEmpty size) = ⊥
+
+-- What `check text` answers to an input.
+abbrev pub ChecksText : List ℕ → Answer → Type 0
+ChecksText input answers.Words = ⊥
+ChecksText input answers.SourceFault = ⊥
+ChecksText input answers.StationFault = ⊥
+ChecksText input (answers.Refused place reason) = IsTooLong input place reason
+ChecksText input (answers.Set summary) = ⊥
+ChecksText input (answers.Text text) = (length input ≤ INPUT_BYTES) × IsSummedUp (told_of input) text
+ChecksText input (answers.Line captured) = ⊥
+ChecksText input answers.Formatted = ⊥
+ChecksText input (answers.NotEmpty size) = ⊥
 
 -- What `check line` answers to an input: its frames are found when they are printed.
 abbrev pub ChecksLine : List ℕ → Answer → Type 0
@@ -58,6 +64,7 @@ ChecksLine input answers.SourceFault = ⊥
 ChecksLine input answers.StationFault = ⊥
 ChecksLine input (answers.Refused place reason) = IsTooLong input place reason
 ChecksLine input (answers.Set summary) = ⊥
+ChecksLine input (answers.Text text) = ⊥
 ChecksLine input (answers.Line captured) = (length input ≤ INPUT_BYTES) × (captured.items ≡ input)
 ChecksLine input answers.Formatted = ⊥
 ChecksLine input (answers.NotEmpty size) = ⊥
@@ -65,6 +72,7 @@ ChecksLine input (answers.NotEmpty size) = ⊥
 -- What a check answers to an input.
 abbrev pub Checks : CheckKind → List ℕ → Answer → Type 0
 Checks checks.Set input answer = ChecksSet input answer
+Checks checks.Text input answer = ChecksText input answer
 Checks checks.Line input answer = ChecksLine input answer
 
 -- what was left in the source before and after, and its count of faults before and after
@@ -118,8 +126,14 @@ AsksFormat words = (new : NewJournal) × Spells (jobs.Format new) words
 abbrev pub has_refused : List ℕ → Bool
 has_refused bytes = list_any (λ frame. is_refused frame.1) (frames_in bytes)
 
+abbrev pub status_at : TextEnding → ℕ
+status_at endings.Whole = DONE
+status_at (endings.Envelope fault) = INPUT_REFUSED
+status_at (endings.Set place reason) = INPUT_REFUSED
+
 abbrev pub status_of : Answer → ℕ
 status_of (answers.Set summary) = DONE
+status_of (answers.Text text) = status_at text.ending
 status_of answers.Words = WORDS_REFUSED
 status_of (answers.Refused place reason) = INPUT_REFUSED
 status_of answers.SourceFault = SOURCE_FAILED

@@ -67,6 +67,7 @@ Formats tells new served answers.SourceFault = ⊥
 Formats tells new served answers.StationFault = Rose served.faults served.faults_after × (tells → IsFailed new served.before served.after)
 Formats tells new served (answers.Refused place reason) = ⊥
 Formats tells new served (answers.Set summary) = ⊥
+Formats tells new served (answers.Text text) = ⊥
 Formats tells new served (answers.Line captured) = ⊥
 Formats tells new served answers.Formatted = tells → IsMade new served.before served.after
 Formats tells new served (answers.NotEmpty size) = tells → IsNotEmpty new size served.before served.after

@@ -12,11 +12,15 @@ use Rattle.segments.specs.declared.segment_fault.SegmentFault.{SegmentFault}
 use Rattle.segments.specs.declared.segment_fault.SegmentFault.TheVariants as segment_faults
 use Rattle.segments.specs.declared.set_fault.SetReason.{SetReason}
 use Rattle.segments.specs.declared.set_fault.SetReason.TheVariants as reasons
-use Rattle.base_record_894.specs.BaseRecord.{BaseRecord, amount_of}
-use Rattle.dsd_pricing.specs.Pricing.{quantities}
 use Rattle.dex_cli.specs.declared.answer.Answer.{Answer}
 use Rattle.dex_cli.specs.declared.answer.Answer.TheVariants as answers
+use Rattle.dxs_envelope.specs.declared.fault.EnvelopeReason.{EnvelopeReason}
+use Rattle.dxs_envelope.specs.declared.fault.EnvelopeReason.TheVariants as envelope_reasons
+use Rattle.dex_cli.specs.declared.summary.SetForm.{SetForm}
+use Rattle.dex_cli.specs.declared.summary.SetForm.TheVariants as forms
 use Rattle.dex_cli.specs.declared.summary.SetSummary.{SetSummary}
+use Rattle.dex_cli.specs.declared.text_summary.TextEnding.{TextEnding}
+use Rattle.dex_cli.specs.declared.text_summary.TextEnding.TheVariants as endings
 
 -- a line ends with LF
 abbrev pub line : List ℕ → List ℕ
@@ -30,20 +34,35 @@ abbrev pub flag_text : Flag → List ℕ
 flag_text flags.Debit = codes "D"
 flag_text flags.Credit = codes "C"
 
--- ---- the summary of a base record
+-- ---- the lines of a set
 
-abbrev pub delivery_text : BaseRecord → List ℕ
-delivery_text base = both (codes "DELIVERY") (both (flag_text base.flag) (both base.number (day_text base.day)))
+abbrev pub name_text : SetForm → List ℕ
+name_text (forms.Delivery day) = codes "SET 894"
+name_text (forms.Answer level check) = codes "SET 895"
 
--- control number, delivery, number of lines, sum of the quantities, and the amount
-unfoldable pub summary_text : SetSummary → List ℕ
-summary_text summary =
-    line (both (codes "SET 894") summary.seal.control)
-    ++ line (delivery_text summary.base)
-    ++ line (both (codes "LINES") (decimal (length summary.base.lines)))
-    ++ line (both (codes "QUANTITY") (decimal (quantities summary.base.lines)))
-    ++ line (both (codes "AMOUNT") (decimal (amount_of summary.base)))
-    ++ line (codes "OK")
+-- the day stands in a set 894 alone
+abbrev pub day_behind : SetForm → List ℕ
+day_behind (forms.Delivery day) = 32 ∷ day_text day
+day_behind (forms.Answer level check) = []
+
+abbrev pub delivery_text : SetSummary → List ℕ
+delivery_text set = both (codes "DELIVERY") (both (flag_text set.flag) (set.number ++ day_behind set.form))
+
+-- the level of an answer, and the integrity value of the set that it answers
+abbrev pub form_text : SetForm → List ℕ
+form_text (forms.Delivery day) = []
+form_text (forms.Answer level check) = line (both (codes "LEVEL") (decimal level)) ++ line (both (codes "ANSWERS") (check_text check))
+
+-- number of lines, quantity, amount
+abbrev pub totals_text : SetSummary → List ℕ
+totals_text set =
+    line (both (codes "LINES") (decimal set.lines))
+    ++ line (both (codes "QUANTITY") (decimal set.quantity))
+    ++ line (both (codes "AMOUNT") (decimal set.amount))
+
+-- control number, delivery, what an answer has besides, and the totals
+unfoldable pub set_text : SetSummary → List ℕ
+set_text set = line (both (name_text set.form) set.control) ++ line (delivery_text set) ++ form_text set.form ++ totals_text set
 
 -- ---- reasons
 
@@ -65,7 +84,6 @@ segment_fault_text (segment_faults.TooManyElements place) = codes "SEGMENT ELEME
 abbrev pub reason_text : SetReason → List ℕ
 reason_text (reasons.Segment fault) = segment_fault_text fault
 reason_text reasons.Order = codes "ORDER"
-reason_text (reasons.NotYet id) = both (codes "NOTYET") id
 reason_text reasons.Limit = codes "LIMIT"
 reason_text (reasons.Value element fault) = both (codes "VALUE") (both (decimal element) (fault_text fault))
 reason_text (reasons.Twice dsd) = both (codes "TWICE") (decimal dsd)
@@ -73,6 +91,30 @@ reason_text (reasons.Totals said computed) = both (codes "TOTALS") (both (decima
 reason_text (reasons.Check said computed) = both (codes "CHECK") (both (check_text said) (check_text computed))
 reason_text (reasons.Count said found) = both (codes "COUNT") (both (decimal said) (decimal found))
 reason_text reasons.Control = codes "CONTROL"
+
+abbrev pub refused_line : ℕ → List ℕ → List ℕ
+refused_line place reason = line (both (codes "REFUSED") (both (decimal place) reason))
+
+abbrev pub envelope_reason_text : EnvelopeReason → List ℕ
+envelope_reason_text envelope_reasons.NoHeader = codes "NOHEADER"
+envelope_reason_text envelope_reasons.NoTrailer = codes "NOTRAILER"
+envelope_reason_text (envelope_reasons.Count said found) = both (codes "COUNT") (both (decimal said) (decimal found))
+envelope_reason_text envelope_reasons.Control = codes "CONTROL"
+envelope_reason_text envelope_reasons.Function = codes "FUNCTION"
+envelope_reason_text (envelope_reasons.Segment fault) = segment_fault_text fault
+envelope_reason_text envelope_reasons.Tail = codes "TAIL"
+
+-- ---- a transmission
+
+abbrev pub sets_text : List SetSummary → List ℕ
+sets_text [] = []
+sets_text (set ∷ sets) = set_text set ++ sets_text sets
+
+-- how many sets there are, where the transmission is whole; else where and why it is refused
+abbrev pub ending_text : ℕ → TextEnding → List ℕ
+ending_text count endings.Whole = line (both (codes "SETS") (decimal count)) ++ line (codes "OK")
+ending_text count (endings.Envelope fault) = refused_line fault.place (envelope_reason_text fault.reason)
+ending_text count (endings.Set place reason) = refused_line place (reason_text reason)
 
 -- ---- frames
 
@@ -110,8 +152,9 @@ unfoldable pub printed : Answer → List ℕ
 printed answers.Words = line (codes "WORDS")
 printed answers.SourceFault = line (codes "FAULT SOURCE")
 printed answers.StationFault = line (codes "FAULT STATION")
-printed (answers.Refused place reason) = line (both (codes "REFUSED") (both (decimal place) (reason_text reason)))
-printed (answers.Set summary) = summary_text summary
+printed (answers.Refused place reason) = refused_line place (reason_text reason)
+printed (answers.Set set) = set_text set ++ line (codes "OK")
+printed (answers.Text text) = sets_text text.sets.items ++ ending_text (length text.sets.items) text.ending
 printed (answers.Line captured) = frames_text (frames_in captured.items)
 printed answers.Formatted = line (codes "FORMATTED")
 printed (answers.NotEmpty size) = line (both (codes "NOT EMPTY") (decimal size))

@@ -8,6 +8,7 @@ use Rattle.dex_cli.specs.declared.words.CheckKind.TheVariants as checks
 
 abbrev pub check_words : CheckKind → List (List ℕ)
 check_words checks.Set = codes "check" ∷ codes "set" ∷ []
+check_words checks.Text = codes "check" ∷ codes "text" ∷ []
 check_words checks.Line = codes "check" ∷ codes "line" ∷ []
 
 -- These are the words of this job.

@@ -1,6 +1,7 @@
 //! What a run comes to.
 
 use crate::summary::SetSummary;
+use crate::text_summary::TextSummary;
 use segments::SetReason;
 
 /// What a run comes to, before it is printed; want of memory aside.
@@ -14,8 +15,10 @@ pub enum Answer {
     StationFault,
     /// The input is refused at this place.
     Refused { place: usize, reason: SetReason },
-    /// The input is this base record.
+    /// The input is a set, of which this is printed.
     Set(SetSummary),
+    /// The input is a text of sets, of which this is printed.
+    Text(TextSummary),
     /// The input is these bytes, captured from one direction of the line.
     Line(Vec<u8>),
     /// The journal was made.

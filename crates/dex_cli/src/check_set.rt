@@ -5,8 +5,8 @@ ghost use Rattle.dex_cli.specs.Answers.{ChecksSet};
 
 use crate::answer::Answer;
 use crate::job::INPUT_BYTES;
-use crate::summary::SetSummary;
-use base_record_894::read_894;
+use crate::summary::summary_of;
+use dsd_record::set_of;
 use segments::{SetFault, SetReason};
 use std::alloc::{AllocError, Global};
 
@@ -20,8 +20,8 @@ pub fn check_set(alloc: Global, input: &[u8]) -> Result<Answer, AllocError>
             reason: SetReason::Limit,
         });
     }
-    match read_894(alloc, input) {
-        Ok((base, seal)) => Ok(Answer::Set(SetSummary { base, seal })),
+    match set_of(alloc, input) {
+        Ok(set) => Ok(Answer::Set(summary_of(set))),
         Err(SetFault::Refused { place, reason }) => Ok(Answer::Refused { place, reason }),
         Err(SetFault::Memory) => Err(AllocError),
     }

@@ -11,6 +11,7 @@ ghost use Rattle.dex_cli.specs.declared.answer.Answer.{Answer as AnswerValue};
 use crate::answer::Answer;
 use crate::check_line::check_line;
 use crate::check_set::check_set;
+use crate::check_text::check_text;
 use crate::fault::WordsFault;
 use crate::formatting::make_journal;
 use crate::report::text_of;
@@ -107,6 +108,7 @@ fn judge(alloc: Global, kind: CheckKind, input: Vec<u8>) -> Result<Answer, Alloc
 {
     match kind {
         CheckKind::Set => check_set(alloc, &input),
+        CheckKind::Text => check_text(alloc, &input),
         CheckKind::Line => Ok(check_line(input)),
     }
 }

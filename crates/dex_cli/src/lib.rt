@@ -4,6 +4,7 @@
 mod answer;
 mod check_line;
 mod check_set;
+mod check_text;
 mod fault;
 mod format_words;
 mod formatting;
@@ -14,6 +15,7 @@ mod reasons;
 mod report;
 mod status;
 mod summary;
+mod text_summary;
 mod words;
 
 pub use answer::Answer;
@@ -22,7 +24,8 @@ pub use format_words::NewJournal;
 pub use job::{INPUT_BYTES, dex};
 pub use name::Name;
 pub use status::NO_MEMORY;
-pub use summary::SetSummary;
+pub use summary::{SetForm, SetSummary};
+pub use text_summary::{TextEnding, TextSummary};
 pub use words::{CheckKind, Job, read_words};
 
 #[cfg(test)]

@@ -1,6 +1,6 @@
 //! The printed texts of reasons.
 
-ghost use Rattle.std.specs.Prelude.{◌≡◌, ◌++◌, OnOk};
+ghost use Rattle.std.specs.Prelude.{◌≡◌, ◌++◌, codes, OnOk};
 ghost use Rattle.std.specs.Fmt.{decimal};
 ghost use Rattle.dex_cli.specs.Texts.{both, fault_text, segment_fault_text, reason_text};
 
@@ -9,7 +9,8 @@ use dsd_values::{ValueFault, write_check};
 use segments::{SegmentFault, SetReason};
 use std::alloc::{AllocError, Global};
 
-fn segment_fault(fault: SegmentFault) -> &'static str
+/// The printed text of a fault of a segment.
+pub fn segment_fault(fault: SegmentFault) -> &'static str
     ensures { result.now ≡ segment_fault_text fault }
 {
     match fault {
@@ -43,6 +44,15 @@ fn put_fault(alloc: Global, out: &mut Vec<u8>, fault: ValueFault) -> Result<(), 
     }
 }
 
+/// Prints a number that is stated and the one that was found.
+pub fn put_counts(alloc: Global, out: &mut Vec<u8>, said: u64, found: u64) -> Result<(), AllocError>
+    ensures { OnOk result (out.new.items ≡ out.old.items ++ both (codes "COUNT") (both (decimal said) (decimal found))) }
+{
+    put_named(alloc, out, "COUNT", said)?;
+    put(out, " ")?;
+    put_number(alloc, out, found)
+}
+
 /// Prints a reason.
 pub fn put_reason(alloc: Global, out: &mut Vec<u8>, reason: &SetReason) -> Result<(), AllocError>
     ensures { OnOk result (out.new.items ≡ out.old.items ++ reason_text reason.now) }
@@ -50,10 +60,6 @@ pub fn put_reason(alloc: Global, out: &mut Vec<u8>, reason: &SetReason) -> Resul
     match reason {
         SetReason::Segment(fault) => put(out, segment_fault(*fault)),
         SetReason::Order => put(out, "ORDER"),
-        SetReason::NotYet(id) => {
-            put(out, "NOTYET ")?;
-            put_bytes(out, id.as_slice())
-        }
         SetReason::Limit => put(out, "LIMIT"),
         SetReason::Value { element, fault } => {
             put_named(alloc, out, "VALUE", *element as u64)?;
@@ -72,11 +78,7 @@ pub fn put_reason(alloc: Global, out: &mut Vec<u8>, reason: &SetReason) -> Resul
             put(out, " ")?;
             put_bytes(out, write_check(*computed).as_slice())
         }
-        SetReason::Count { said, found } => {
-            put_named(alloc, out, "COUNT", *said)?;
-            put(out, " ")?;
-            put_number(alloc, out, *found)
-        }
+        SetReason::Count { said, found } => put_counts(alloc, out, *said, *found),
         SetReason::Control => put(out, "CONTROL"),
     }
 }

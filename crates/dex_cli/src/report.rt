@@ -3,7 +3,7 @@
 ghost use Rattle.std.specs.Prelude.{◌≡◌, ◌++◌, codes, OnOk, IfOk};
 ghost use Rattle.std.specs.Fmt.{decimal, signed_decimal};
 ghost use Rattle.dex_cli.specs.Answers.{status_of};
-ghost use Rattle.dex_cli.specs.Texts.{line, both, reason_text, printed};
+ghost use Rattle.dex_cli.specs.Texts.{line, both, reason_text, refused_line, printed};
 
 use crate::answer::Answer;
 use crate::check_line::put_captured;
@@ -11,7 +11,8 @@ use crate::reasons::put_reason;
 use crate::status::{
     DONE, INPUT_REFUSED, JOURNAL_REFUSED, SOURCE_FAILED, STATION_FAILED, WORDS_REFUSED,
 };
-use crate::summary::put_summary;
+use crate::summary::put_set;
+use crate::text_summary::put_text;
 use segments::SetReason;
 use std::alloc::{AllocError, Global};
 
@@ -76,9 +77,10 @@ fn put_answer(alloc: Global, out: &mut Vec<u8>, answer: &Answer) -> Result<u8, A
             Ok(INPUT_REFUSED)
         }
         Answer::Set(summary) => {
-            put_summary(alloc, out, summary)?;
-            Ok(DONE)
+            put_set(alloc, out, summary)?;
+            put_ending(out, "OK", DONE)
         }
+        Answer::Text(text) => put_text(alloc, out, text),
         Answer::Line(captured) => put_captured(alloc, out, captured),
         Answer::Formatted => put_ending(out, "FORMATTED", DONE),
         Answer::NotEmpty(size) => {
@@ -98,13 +100,13 @@ fn put_ending(out: &mut Vec<u8>, text: &str, status: u8) -> Result<u8, AllocErro
     Ok(status)
 }
 
-fn put_refusal(
+pub fn put_refusal(
     alloc: Global,
     out: &mut Vec<u8>,
     place: usize,
     reason: &SetReason,
 ) -> Result<(), AllocError>
-    ensures { OnOk result (out.new.items ≡ out.old.items ++ line (both (codes "REFUSED") (both (decimal place) (reason_text reason.now)))) }
+    ensures { OnOk result (out.new.items ≡ out.old.items ++ refused_line place (reason_text reason.now)) }
 {
     put(out, "REFUSED ")?;
     put_number(alloc, out, place as u64)?;

@@ -1,20 +1,97 @@
-//! The printed summary of a set.
+//! What is printed of a set.
 
 ghost use Rattle.std.specs.Prelude.{◌≡◌, ◌++◌, OnOk};
-ghost use Rattle.std.specs.Fmt.{decimal};
-ghost use Rattle.dex_cli.specs.Texts.{line, both, flag_text, delivery_text, summary_text};
+ghost use Rattle.dsd_record.specs.declared.set_view.SetView.TheVariants as sets;
+ghost use Rattle.dex_cli.specs.Summaries.{summary_of as told_of};
+ghost use Rattle.dex_cli.specs.Texts.{day_behind, delivery_text, flag_text, form_text, name_text, set_text, totals_text};
+ghost use Rattle.dex_cli.specs.Texts.{line as ended};
 
 use crate::report::{put, put_bytes, put_count, put_pair};
+use adjustment_895::Answer895;
 use base_record_894::Base;
-use dsd_values::{Flag, write_day};
+use dsd_record::SetView;
+use dsd_values::{Cents, Check, Day, DeliveryNumber, Flag, Level, Word, write_check, write_day};
 use segments::Seal;
 use std::alloc::{AllocError, Global};
 
-/// A base record that was read, with its seal.
+/// What is printed of a set.
 #[derive(Debug, Drop)]
 pub struct SetSummary {
-    pub base: Base,
-    pub seal: Seal,
+    pub control: Word,
+    pub flag: Flag,
+    pub number: DeliveryNumber,
+    pub form: SetForm,
+    /// How many lines it has.
+    pub lines: usize,
+    pub quantity: u32,
+    pub amount: Cents,
+}
+
+/// What is printed of one of the sets alone.
+#[derive(Clone, Copy, Debug)]
+pub enum SetForm {
+    /// Set 894, of a delivery on this day.
+    Delivery(Day),
+    /// Set 895, of this level, in answer to the set with this integrity value.
+    Answer(Level, Check),
+}
+
+/// The summary of a set.
+pub fn summary_of(set: SetView) -> SetSummary
+    ensures { result ≡ told_of set }
+{
+    match set {
+        SetView::Base(base, seal) => of_base(&base, seal),
+        SetView::Answer(answer, seal) => of_answer(&answer, seal),
+    }
+}
+
+fn of_base(base: &Base, seal: Seal) -> SetSummary
+    ensures { result ≡ told_of (sets.Base base.now seal) }
+{
+    SetSummary {
+        control: seal.control,
+        flag: base.flag(),
+        number: base.number().copy(),
+        form: SetForm::Delivery(base.day()),
+        lines: base.lines().as_slice().len(),
+        quantity: base.quantity(),
+        amount: base.amount(),
+    }
+}
+
+fn of_answer(answer: &Answer895, seal: Seal) -> SetSummary
+    ensures { result ≡ told_of (sets.Answer answer.now seal) }
+{
+    SetSummary {
+        control: seal.control,
+        flag: answer.flag(),
+        number: answer.number().copy(),
+        form: SetForm::Answer(answer.level(), answer.check()),
+        lines: answer.lines().as_slice().len(),
+        quantity: answer.quantity(),
+        amount: answer.amount(),
+    }
+}
+
+/// Prints the lines of a set.
+#[tactic(auto, unfolding(crate::specs::Texts::set_text))]
+pub fn put_set(alloc: Global, out: &mut Vec<u8>, set: &SetSummary) -> Result<(), AllocError>
+    ensures { OnOk result (out.new.items ≡ out.old.items ++ set_text set.now) }
+{
+    put_pair(out, name(set.form), set.control.as_slice())?;
+    put_delivery(out, set)?;
+    put_form(alloc, out, set.form)?;
+    put_totals(alloc, out, set)
+}
+
+fn name(form: SetForm) -> &'static str
+    ensures { result.now ≡ name_text form }
+{
+    match form {
+        SetForm::Delivery(_) => "SET 894",
+        SetForm::Answer(_, _) => "SET 895",
+    }
 }
 
 fn flag(flag: Flag) -> &'static [u8]
@@ -26,28 +103,49 @@ fn flag(flag: Flag) -> &'static [u8]
     }
 }
 
-fn put_delivery(out: &mut Vec<u8>, base: &Base) -> Result<(), AllocError>
-    ensures { OnOk result (out.new.items ≡ out.old.items ++ line (delivery_text base.now)) }
+/// Prints the line of the delivery, with the day where the set states it.
+fn put_delivery(out: &mut Vec<u8>, set: &SetSummary) -> Result<(), AllocError>
+    ensures { OnOk result (out.new.items ≡ out.old.items ++ ended (delivery_text set.now)) }
 {
     put(out, "DELIVERY ")?;
-    put_bytes(out, flag(base.flag()))?;
+    put_bytes(out, flag(set.flag))?;
     put(out, " ")?;
-    put_bytes(out, base.number().as_slice())?;
-    put(out, " ")?;
-    put_bytes(out, write_day(base.day()).as_slice())?;
+    put_bytes(out, set.number.as_slice())?;
+    put_day(out, set.form)?;
     put(out, "\n")
 }
 
-/// Prints the summary of a set.
-#[tactic(auto, unfolding(crate::specs::Texts::summary_text))]
-pub fn put_summary(alloc: Global, out: &mut Vec<u8>, summary: &SetSummary) -> Result<(), AllocError>
-    ensures { OnOk result (out.new.items ≡ out.old.items ++ summary_text summary.now) }
+/// Prints the day of a delivery.
+fn put_day(out: &mut Vec<u8>, form: SetForm) -> Result<(), AllocError>
+    ensures { OnOk result (out.new.items ≡ out.old.items ++ day_behind form) }
 {
-    let SetSummary { base, seal } = summary;
-    put_pair(out, "SET 894", seal.control.as_slice())?;
-    put_delivery(out, base)?;
-    put_count(alloc, out, "LINES", base.lines().as_slice().len() as u64)?;
-    put_count(alloc, out, "QUANTITY", u64::from(base.quantity()))?;
-    put_count(alloc, out, "AMOUNT", base.amount().get())?;
-    put(out, "OK\n")
+    match form {
+        SetForm::Delivery(day) => {
+            put(out, " ")?;
+            put_bytes(out, write_day(day).as_slice())
+        }
+        SetForm::Answer(_, _) => Ok(()),
+    }
+}
+
+/// Prints the lines that both sets end with.
+fn put_totals(alloc: Global, out: &mut Vec<u8>, set: &SetSummary) -> Result<(), AllocError>
+    ensures { OnOk result (out.new.items ≡ out.old.items ++ totals_text set.now) }
+{
+    put_count(alloc, out, "LINES", set.lines as u64)?;
+    put_count(alloc, out, "QUANTITY", u64::from(set.quantity))?;
+    put_count(alloc, out, "AMOUNT", set.amount.get())
+}
+
+/// Prints the lines that an answer has besides.
+fn put_form(alloc: Global, out: &mut Vec<u8>, form: SetForm) -> Result<(), AllocError>
+    ensures { OnOk result (out.new.items ≡ out.old.items ++ form_text form) }
+{
+    match form {
+        SetForm::Delivery(_) => Ok(()),
+        SetForm::Answer(level, check) => {
+            put_count(alloc, out, "LEVEL", u64::from(level.get()))?;
+            put_pair(out, "ANSWERS", write_check(check).as_slice())
+        }
+    }
 }

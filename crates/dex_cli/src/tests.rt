@@ -5,7 +5,9 @@ use dsd_station::{Failed, MemorySink, MemorySource, MemoryStation, Source};
 use std::alloc::{AllocError, Global};
 use std::test::Fail;
 
+mod answers;
 mod formats;
+mod texts;
 mod whole_sets;
 
 /// Two lines: 12 at 1.25 and 3 at .3333.
@@ -68,7 +70,6 @@ fn sets(rt: HostRuntime) -> Result<(), Fail> {
             "SET 894 0001\nDELIVERY D 100001 20240229\nLINES 0\nQUANTITY 0\nAMOUNT 0\nOK\n",
         ),
         ("", 3, "REFUSED 0 ORDER\n"),
-        ("ST*895*0001\n", 3, "REFUSED 0 NOTYET ST\n"),
         ("\r", 3, "REFUSED 0 SEGMENT NOEND\n"),
     ];
     for (text, status, printed) in rows {

@@ -13,6 +13,8 @@ use std::alloc::Global;
 pub enum CheckKind {
     /// One set.
     Set,
+    /// A transmission of sets.
+    Text,
     /// The bytes captured from one direction of the line.
     Line,
 }
@@ -20,7 +22,7 @@ pub enum CheckKind {
 /// What the program is to do.
 #[derive(Debug, Drop)]
 pub enum Job {
-    /// `check set`, `check line`: reads the source and prints what stands in it.
+    /// `check set`, `check text`, `check line`: reads the source and prints what stands in it.
     Check(CheckKind),
     /// `format ROLE OWN PEER JOURNAL`: makes a journal.
     Format(NewJournal),
@@ -33,6 +35,9 @@ pub fn read_words(alloc: Global, words: &[String]) -> Result<Job, WordsFault>
 {
     if are(words, "check", "set") {
         return Ok(Job::Check(CheckKind::Set));
+    }
+    if are(words, "check", "text") {
+        return Ok(Job::Check(CheckKind::Text));
     }
     if are(words, "check", "line") {
         return Ok(Job::Check(CheckKind::Line));

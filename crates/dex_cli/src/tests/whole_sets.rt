@@ -53,7 +53,7 @@ fn changed_whole_sets(rt: HostRuntime) -> Result<(), Fail> {
     let alloc = rt.alloc();
     let rows = [
         ("ST*894", "ST*893", "REFUSED 0 ORDER\n"),
-        ("ST*894", "ST*895", "REFUSED 0 NOTYET ST\n"),
+        ("ST*894", "ST*895", "REFUSED 13 ORDER\n"),
         ("*0001\r\nG82", "*001\r\nG82", "REFUSED 0 VALUE 2 RANGE\n"),
         (
             "ST*894*0001\r\n",

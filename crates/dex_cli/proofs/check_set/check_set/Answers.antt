@@ -6,4 +6,4 @@ pub returns-in-Err-Refused : goal.returns-in-Err-Refused
 returns-in-Err-Refused c =
     let clauses = rw c.in-Err-Refused.field-0-is at c.in-Err-Refused.ensures in
     let short : length c.args.input.now ≤ INPUT_BYTES = omega (arith, c.if-input-gt-INPUT_BYTES.false) in
-    inr (record { short = short; first = clauses.exact; none = λ base seal is. let never = clauses.only base seal is in cc; within = clauses.within })
+    inr (short, record { first = clauses.exact; none = λ set is. let never = clauses.only set is in cc; within = clauses.within })
