@@ -2,8 +2,9 @@
 """figures.py [PROGRAM]
 
 Makes large inputs, runs the program on each, and prints what it took: instructions (counted by
-callgrind), instructions a byte, and peak memory. It judges nothing and always ends with status 0.
-PROGRAM is crates/dex/out/dex where none is given.
+callgrind), instructions a byte, and peak memory. Then it measures adjustments of 10 to 999 lines with
+the program bench_versions, and the sets of a transmission one by one. It judges nothing and always ends
+with status 0. PROGRAM is crates/dex/out/dex where none is given.
 """
 import os
 import re
@@ -70,6 +71,33 @@ def set_with_allowances():
     return delivery(items, 400 * 12, 400 * (1500 - 3 * 120 + 3 * 150))
 
 
+def small_set():
+    """The smallest delivery of two lines that is sent often: 172 bytes."""
+    items = ["G83*1*12*EA*012345678905****1.25", "G83*2*3*EA*012345678912****.3333"]
+    return delivery(items, 15, 1600)
+
+
+def transmission(sets):
+    """The text that carries these sets."""
+    header = b"DXS*HH00000001*DX*004010UCS*1*RR00000001\r\n"
+    return header + b"".join(sets) + b"DXE*1*%d\r\n" % len(sets)
+
+
+def small_sets():
+    """A transmission near 270,000 bytes, the most that is sent: 1,569 deliveries of two lines."""
+    return transmission([small_set()] * 1_569)
+
+
+def adjustment(count):
+    """A delivery of so many lines, and an answer that adjusts each of them from 12 units to 11."""
+    base = delivery([item(number) for number in range(1, count + 1)], count * 12, count * 1500)
+    check = base[base.index(b"G85*") + 4 :][:4].decode()
+    lines = [item(number).replace("G83*%d*12*" % number, "G89*%d*11*" % number) for number in range(1, count + 1)]
+    head = ["ST*895*0001", "G87*R*D*100001*%s*1" % check, "LS*0100"]
+    answer = sealed(head + lines + ["LE*0100", "G84*%d*%d" % (count * 11, count * 1375), "G86*SMITH"])
+    return base, answer
+
+
 def refused_early():
     """4 MB of whole segments, of which the second may not stand there."""
     return b"ST*894*0001\r\n" + b"G83*1*12*EA*012345678905****1.25\r\n" * 123_000
@@ -89,6 +117,7 @@ INPUTS = [
     ("set", ["check", "set"], full_set),
     ("allowances", ["check", "set"], set_with_allowances),
     ("refused", ["check", "set"], refused_early),
+    ("text", ["check", "text"], small_sets),
     ("line", ["check", "line"], captured_line),
 ]
 
@@ -159,6 +188,38 @@ def measure(program, folder):
         print("%-11s %9d %13s %7s %9s %7d  %s" % (name, size, told, each, peak or "-", status, last))
 
 
+def counted(command, data, folder):
+    """The instructions that a command takes on these bytes, or None."""
+    source = os.path.join(folder, "input")
+    with open(source, "wb") as file:
+        file.write(data)
+    return instructions(command, source, folder)
+
+
+def measure_sets(program, folder):
+    """What the sets of the transmission take one by one, process start taken off."""
+    start = counted([program, "check", "set"], b"", folder)
+    one = counted([program, "check", "set"], small_set(), folder)
+    if start is not None:
+        print("\none set of the text by itself: %.2f instructions a byte" % ((one - start) / len(small_set())))
+
+
+def measure_versions(program, folder):
+    """What an adjustment of all lines takes, reading both sets included, process start taken off."""
+    if not os.access(program, os.X_OK):
+        print("\nno program at", program, "- build it with: cd crates/bench_versions && rt run < stdin")
+        return
+    start = counted([program], transmission([]), folder)
+    if start is None:
+        return
+    print("\n%5s %11s %11s  %s" % ("lines", "both sets", "the base", "a line of both, of the base alone"))
+    for count in (10, 100, 500, 999):
+        base, answer = adjustment(count)
+        both = counted([program], transmission([base, answer]), folder) - start
+        alone = counted([program], transmission([base]), folder) - start
+        print("%5d %11d %11d  %.0f, %.0f" % (count, both, alone, both / count, alone / count))
+
+
 def main():
     program = os.path.abspath(sys.argv[1]) if len(sys.argv) > 1 else os.path.join(HOME, "crates", "dex", "out", "dex")
     if not os.access(program, os.X_OK):
@@ -166,6 +227,8 @@ def main():
         return
     with tempfile.TemporaryDirectory() as folder:
         measure(program, folder)
+        measure_sets(program, folder)
+        measure_versions(os.path.join(HOME, "crates", "bench_versions", "out", "bench_versions"), folder)
 
 
 if __name__ == "__main__":
