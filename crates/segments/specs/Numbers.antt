@@ -7,12 +7,11 @@ use Rattle.dsd_values.specs.declared.limits.TheConstants.{MOST_ALLOWANCES, MOST_
 use Rattle.segments.specs.Extras.{HasExtras, allowances}
 use Rattle.segments.specs.Reasons.{has_line}
 
--- at each number: whether a line has it
+-- at each number: whether a line has it; none has one past the end
 pub record IsTable (lines : List Line) (stands : List Bool) : Type 0 where
   pub few : length lines ≤ MOST_LINES
   pub behind : All HasExtras lines
-  pub size : length stands ≡ 10000
-  pub tells : (dsd : ℕ) → dsd < 10000 → get_or stands dsd false ≡ has_line dsd lines
+  pub tells : (dsd : ℕ) → get_or stands dsd false ≡ has_line dsd lines
 
 -- one more allowance may stand beside these, and a note always
 abbrev pub HasRoom : Extra → List Extra → Type 0

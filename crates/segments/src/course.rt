@@ -91,6 +91,8 @@ impl Course {
     }
 
     /// Whether such a segment may stand here, and what may come behind it.
+    // Inlined, as `keep` is, at the reader of each set: so the form is known there.
+    #[inline(always)]
     #[tactic(auto, unfolding(crate::specs::Reasons::admission))]
     pub fn admit(&self, form: Form, kind: Kind, segment: &Segment<'_>) -> Result<Phase, SetFault>
         ensures exact { Says result segment.now.start (admission form self.now.phase kind segment.now) (λ phase. next_phase self.now.phase kind form ≡ Some phase) }
@@ -106,6 +108,7 @@ impl Course {
     }
 
     /// Keeps what a segment of this kind says.
+    #[inline(always)]
     #[tactic(auto, unfolding(crate::specs::SoFar::kept))]
     pub fn keep(&mut self, kind: Kind, segment: &Segment<'_>) -> Result<(), SetFault>
         requires { self.old.count ≤ SET_BYTES }

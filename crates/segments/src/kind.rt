@@ -49,6 +49,7 @@ pub enum Kind {
 
 impl Kind {
     /// What this segment is in a set of this form.
+    #[inline(always)]
     #[tactic(auto, unfolding(crate::specs::Kinds::kind_of))]
     pub fn of(form: Form, segment: &Segment<'_>) -> Kind
         ensures { result ≡ kind_of form segment.now }

@@ -1,6 +1,6 @@
 //! The lines of a set that is being read, and which DSD numbers they have.
 
-ghost use Rattle.std.specs.Prelude.{◌≡◌, ◌+◌, ◌<◌, ◌≤◌, [], ◌∷◌, ◌++◌, true, length, All, IfOk, OnOk, OnErr};
+ghost use Rattle.std.specs.Prelude.{◌≡◌, ◌+◌, ◌<◌, ◌≤◌, [], ◌∷◌, ◌++◌, true, false, get_or, length, ℕ, All, IfOk, OnOk, OnErr};
 ghost use Rattle.dsd_values.specs.Behind.{with_extra};
 ghost use Rattle.segments.specs.Extras.{HasExtras, IsSized, allowances as count_of};
 ghost use Rattle.segments.specs.Numbers.{HasRoom};
@@ -11,11 +11,11 @@ use dsd_values::{DsdNumber, Extra, Line, Lines, MOST_LINES, Memory};
 use std::alloc::Global;
 use std::marker::Model;
 
-/// One more than the greatest DSD number.
-const NUMBERS: usize = 10_000;
+/// How far past a number the table grows, so that it grows seldom.
+const ROOM: usize = 64;
 
 /// Lines in their order, and for each DSD number whether one of them has it: so a new number is found to be new
-/// without a walk over the lines.
+/// without a walk over the lines. The table ends past the greatest number that it was asked to hold.
 #[derive(Drop)]
 pub struct NumberedLines {
     lines: Lines,
@@ -40,7 +40,7 @@ impl NumberedLines {
     {
         Ok(NumberedLines {
             lines: Lines::new(alloc),
-            stands: vec![in alloc; false; NUMBERS]?,
+            stands: Vec::new(alloc),
         })
     }
 
@@ -55,7 +55,7 @@ impl NumberedLines {
     pub fn has(&self, dsd: DsdNumber) -> bool
         ensures { result ≡ has_line dsd self.now }
     {
-        self.stands[usize::from(dsd.get())]
+        matches!(self.stands.get(usize::from(dsd.get())), Some(true))
     }
 
     /// Adds a line behind which nothing stands yet.
@@ -66,6 +66,7 @@ impl NumberedLines {
         ensures err { OnErr result (self.new ≡ self.old) }
     {
         let number = usize::from(line.dsd.get());
+        reach(&mut self.stands, number)?;
         self.lines.push(line)?;
         self.stands[number] = true;
         Ok(())
@@ -106,4 +107,16 @@ impl NumberedLines {
     {
         self.lines
     }
+}
+
+/// Makes a table long enough for this number.
+fn reach(stands: &mut Vec<bool>, number: usize) -> Result<(), Memory>
+    requires { number < 10_000 }
+    ensures long { OnOk result (number < length stands.new.items) }
+    ensures same { (n : ℕ) → get_or stands.new.items n false ≡ get_or stands.old.items n false }
+{
+    if number >= stands.len() {
+        stands.resize(number + ROOM, false)?;
+    }
+    Ok(())
 }

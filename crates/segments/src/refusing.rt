@@ -35,6 +35,7 @@ pub fn at<T>(segment: &Segment<'_>, answer: Result<T, ItemFault>) -> Result<T, S
 }
 
 /// The next segment, or its refusal at the place where it starts.
+#[inline(always)]
 pub fn next_segment<'a>(
     segments: &mut SegmentReader<'a>,
     place: usize,

@@ -40,6 +40,8 @@ impl<'a> SegmentReader<'a> {
     }
 
     /// The next segment, or none at the end of the text. After a fault the reader stays, and each call gives the same.
+    // Inlined, with what it calls, at each reader of a text: so a segment stays in registers.
+    #[inline(always)]
     pub fn next(&mut self) -> Result<Option<Segment<'a>>, SegmentFault>
         ensures answer { result ≡ next_of self.old }
         ensures left { self.new ≡ left_after self.old }
@@ -56,6 +58,7 @@ impl<'a> SegmentReader<'a> {
         self.advance()
     }
 
+    #[inline(always)]
     #[tactic(auto, unfolding(crate::specs::SegmentCut::next_of, crate::specs::SegmentCut::left_after, crate::specs::SegmentCut::first_of))]
     fn advance(&mut self) -> Result<Option<Segment<'a>>, SegmentFault>
         ensures answer { result ≡ next_of self.old }
@@ -73,6 +76,7 @@ impl<'a> SegmentReader<'a> {
 }
 
 /// The segment at the front of what is left.
+#[inline(always)]
 #[tactic(auto, unfolding(crate::specs::SegmentCut::first_of))]
 fn first_segment<'a>(start: usize, rest: &'a [u8]) -> Result<Segment<'a>, SegmentFault>
     requires { start + length rest.now < 2 ^ 64 }

@@ -2,4 +2,4 @@ use Rattle.segments.proofs.Trimmed.{no_lines}
 use Rattle.segments.proofs.numbered_lines.NumberedLines.new.Goals as goal
 
 pub invariant_of-result : goal.invariant_of-result
-invariant_of-result c = no_lines _ _ c.new.ensures (c.in_ok-vec.ensures.items_if_clones_equal (λ y h. h))
+invariant_of-result c = no_lines _ _ c.new.ensures c.new-2.ensures.items
