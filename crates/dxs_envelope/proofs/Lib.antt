@@ -9,3 +9,4 @@ pub mod Units
 pub mod SentRead
 pub mod Worked
 pub mod Standing
+pub mod FaultPlace

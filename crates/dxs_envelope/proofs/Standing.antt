@@ -35,7 +35,7 @@ StandsOpen (Between control found) before = Unit {0}
 StandsOpen (Inside control found set) before = IsOpen set before
 StandsOpen Behind before = Unit {0}
 
-one_spelled : (place : ℕ) (seg : Seg) → SpellsSegment seg → seg.start ≡ place → SpellsSegments place (seg ∷ []) seg.bytes
+pub one_spelled : (place : ℕ) (seg : Seg) → SpellsSegment seg → seg.start ≡ place → SpellsSegments place (seg ∷ []) seg.bytes
 one_spelled place seg is start = (is, start, ([], sym (append-nil seg.bytes), refl))
 
 -- where the bytes of the set end

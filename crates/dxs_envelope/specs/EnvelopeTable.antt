@@ -6,6 +6,7 @@ use Rattle.std.specs.List.{list_all}
 use Rattle.std.specs.Option.{is_none}
 use Rattle.std.specs.Str.{bytes_eq}
 use Rattle.dsd_values.specs.Reading.{plain_number_of}
+use Rattle.dsd_values.specs.declared.limits.TheConstants.{WORD_BYTES}
 use Rattle.segments.specs.Elements.{at_element, no_more, said}
 use Rattle.segments.specs.Kinds.{has_id}
 use Rattle.segments.specs.Views.{Seg, element_of}
@@ -33,7 +34,7 @@ is_header seg =
     && has_length 1 12 (element_of seg 3)
     && is_control_number (element_of seg 4)
     && has_length 0 10 (element_of seg 5)
-    && has_length 0 35 (element_of seg 6)
+    && has_length 0 WORD_BYTES (element_of seg 6)
     && is_ended 6 seg
 
 -- the function is that of a direct exchange

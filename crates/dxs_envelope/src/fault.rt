@@ -38,6 +38,7 @@ pub enum EnvelopeReason {
 pub struct EnvelopeFault {
     /// The start of the segment at which the reason is found, or the length of the text where it ends too early.
     pub place: usize,
+    /// The first reason, in the order of the reasons, against what stands there.
     pub reason: EnvelopeReason,
 }
 

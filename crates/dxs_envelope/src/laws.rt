@@ -1,7 +1,9 @@
 //! Laws of the definitions, each on a function that does nothing.
 
-ghost use Rattle.std.specs.Prelude.{All, List, None, Some, length, ℕ, ◌↔◌, ◌≡◌};
+ghost use Rattle.std.specs.Prelude.{All, List, None, Some, length, take, ℕ, ◌↔◌, ◌≡◌, ◌≤◌};
+ghost use Rattle.segments.specs.SegmentSpelling.{SpellsSegments};
 ghost use Rattle.segments.specs.SegmentWriting.{line_of};
+ghost use Rattle.segments.specs.Views.{Seg};
 ghost use Rattle.dxs_envelope.specs.FirstFault.{first_fault, told_of};
 ghost use Rattle.dxs_envelope.specs.Sending.{IsInUnits, Sent, header_row, placed};
 ghost use Rattle.dxs_envelope.specs.Transmission.{Envelope, StandsIn};
@@ -19,6 +21,13 @@ pub fn sets_are_told()
 /// Each set that is told of a text, up to a fault too, is one and stands in the text at its start.
 pub fn sets_stand_in_their_text()
     ensures { (text : List ℕ) → All (StandsIn text) (told_of text).sets }
+{}
+
+/// The fault of a text stands in it, or at its end, and all before it is whole segments.
+pub fn faults_stand_in_their_text()
+    ensures within { (text : List ℕ) (fault : FaultValue) → first_fault text ≡ Some fault → fault.place ≤ length text }
+    ensures behind { (text : List ℕ) (fault : FaultValue) → first_fault text ≡ Some fault
+        → (segments : List Seg) × SpellsSegments 0 segments (take fault.place text) }
 {}
 
 /// What is written is a transmission of the sets that were handed in, one behind another from the end of the header on, and

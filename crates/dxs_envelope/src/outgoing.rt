@@ -57,6 +57,7 @@ impl Outgoing {
         Outgoing { text }
     }
 
+    /// The text: CR LF ends each of its segments, and it has at most `TRANSMISSION_BYTES` bytes.
     pub fn as_slice(&self) -> &[u8]
         ensures value { result.now ≡ self.now }
         // It is the transmission of some sets, of which there is one list.

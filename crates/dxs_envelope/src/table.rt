@@ -5,11 +5,12 @@ ghost use Rattle.std.specs.List.{list_all};
 ghost use Rattle.std.specs.Char.{is_ascii_digit};
 ghost use Rattle.segments.specs.Kinds.{has_id as starts_with_id};
 ghost use Rattle.segments.specs.Views.{element_of};
+ghost use Rattle.segments.specs.declared.segment.TheConstants.{SEGMENT_ELEMENTS};
 ghost use Rattle.dxs_envelope.specs.EnvelopeTable.{count_in, has_function, has_length as has_so_many, is_control_number as are_control_digits, is_ended as ends_behind, is_header as is_header_but_function, is_trailer};
 ghost use Rattle.dxs_envelope.specs.FirstFault.{header_reason as reason_of_header, trailer_reason as reason_of_trailer};
 
 use super::fault::EnvelopeReason;
-use dsd_values::read_number;
+use dsd_values::{WORD_BYTES, read_number};
 use segments::Segment;
 
 /// The reason against a segment as the header.
@@ -35,7 +36,7 @@ fn is_header(segment: &Segment<'_>) -> bool
         && has_length(segment.element(3), 1, 12)
         && is_control_number(segment.element(4))
         && has_length(segment.element(5), 0, 10)
-        && has_length(segment.element(6), 0, 35)
+        && has_length(segment.element(6), 0, WORD_BYTES)
         && is_ended(segment, 6)
 }
 
@@ -95,7 +96,7 @@ fn are_digits(text: &[u8]) -> bool
 
 /// Whether each element behind the last listed one is empty.
 fn is_ended(segment: &Segment<'_>, last: usize) -> bool
-    requires { last ≤ 30 }
+    requires { last ≤ SEGMENT_ELEMENTS }
     ensures { result ≡ ends_behind last segment.now }
 {
     for element in last + 1..segment.count() + 1 {
