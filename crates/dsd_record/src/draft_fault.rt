@@ -6,7 +6,7 @@ ghost use Rattle.dsd_record.specs.declared.draft_fault.DraftFault.TheVariants.{M
 use dsd_values::{Memory, ValueFault};
 use thiserror::Error;
 
-/// Why a line is refused, in the order in which the reasons are asked.
+/// Why a line is refused. The reasons are asked in the order `Line`, `Words`, `Limit`, `Value`, `Twice`, `Price`.
 #[derive(Clone, Copy, Debug, PartialEq, Eq, Error)]
 pub enum DraftReason {
     /// The first word may not stand there, or the text ends inside a part.
