@@ -1,12 +1,9 @@
 -- A text is summed up set by set.
-use Rattle.std.proofs.Common.{◌≡◌, ℕ, List, [], ◌∷◌, ◌++◌, refl, sym, ap, ◌∙◌, subst, append_assoc, append-nil, Option, Some, None, Result, Ok, Err, IfOk}
-use Rattle.dsd_record.specs.declared.set_view.SetView.{SetView}
-use Rattle.dxs_envelope.specs.FirstFault.{told_of, told_behind, refused, whole}
-use Rattle.dxs_envelope.specs.Views.{SetAt, Told}
-use Rattle.dxs_envelope.specs.declared.fault.EnvelopeFault.{EnvelopeFault}
-use Rattle.dex_cli.specs.Summaries.{Ends, IsNoSetAt, IsSummary, SumsUp}
-use Rattle.dex_cli.specs.TextSteps.{IsSaid, IsStep}
-use Rattle.dex_cli.specs.declared.check_text.Step.{Step}
+use Rattle.std.proofs.Common.{List, [], ◌∷◌, ◌++◌, refl, sym, subst, append_assoc, append-nil}
+use Rattle.dxs_envelope.specs.FirstFault.{told_behind}
+use Rattle.dxs_envelope.specs.Views.{Told}
+use Rattle.dex_cli.specs.Summaries.{Ends, SumsUp}
+use Rattle.dex_cli.specs.TextSteps.{IsStep}
 use Rattle.dex_cli.specs.declared.check_text.Step.TheVariants as steps
 use Rattle.dex_cli.specs.declared.summary.SetSummary.{SetSummary}
 use Rattle.dex_cli.specs.declared.text_summary.TextEnding.{TextEnding}

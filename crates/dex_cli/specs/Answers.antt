@@ -1,8 +1,8 @@
 -- Which answers may come of which words and input, and their statuses.
-use Rattle.std.specs.Prelude.{◌≡◌, ◌⊎◌, ℕ, Bool, if◌then◌else◌, ◌<◌, ◌≤◌, List, length, Option}
+use Rattle.std.specs.Prelude.{◌≡◌, ◌⊎◌, ℕ, Bool, if◌then◌else◌, ◌+◌, ◌<◌, ◌≤◌, List, length, Option}
 use Rattle.std.specs.Io.KnownBytes.{Consumes, IsAtEnd}
 use Rattle.std.specs.List.{list_any}
-use Rattle.dsd_station.specs.Causes.{Rose}
+use Rattle.dsd_station.specs.Causes.{Rose, TakesUpTo}
 use Rattle.dex_line.specs.Captured.{frames_in, is_refused}
 use Rattle.segments.specs.declared.set_fault.SetReason.{SetReason}
 use Rattle.segments.specs.declared.set_fault.SetReason.TheVariants as reasons
@@ -25,6 +25,7 @@ use Rattle.dex_cli.specs.declared.format_words.NewJournal.{NewJournal}
 -- the source gave this input: all that it had, or its front up to the first byte past the limit
 pub record IsInput (left after : Option (List ℕ)) (input : List ℕ) : Type 0 where
   pub taken : Consumes left after input
+  pub few : length input ≤ INPUT_BYTES + 1
   pub whole : length input ≤ INPUT_BYTES → IsAtEnd after
 
 -- longer than any input may be
@@ -82,10 +83,11 @@ pub record Read : Type 0 where
   pub faults : ℕ
   pub faults_after : ℕ
 
--- The source failed.
+-- The source failed, and gave no more than is asked for.
 pub record IsUnread (read : Read) (answer : Answer) : Type 0 where
   pub answer_is : answer ≡ answers.SourceFault
   pub rose : Rose read.faults read.faults_after
+  pub taken : TakesUpTo (INPUT_BYTES + 1) read.left read.after
 
 -- The input was read, and this is the answer to it.
 pub record IsChecked (kind : CheckKind) (read : Read) (answer : Answer) : Type 0 where

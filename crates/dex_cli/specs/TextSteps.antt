@@ -1,5 +1,5 @@
 -- What the body of `check text` finds at each set.
-use Rattle.std.specs.Prelude.{◌≡◌, ℕ}
+use Rattle.std.specs.Prelude.{◌≡◌}
 use Rattle.dxs_envelope.specs.FirstFault.{refused, told_behind, whole}
 use Rattle.dxs_envelope.specs.Views.{SetAt, Told}
 use Rattle.dex_cli.specs.Summaries.{IsNoSetAt, IsSummary}

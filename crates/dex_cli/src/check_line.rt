@@ -4,29 +4,13 @@ ghost use Rattle.std.specs.Prelude.{◌≡◌, ◌++◌, map, length, codes, not
 ghost use Rattle.std.specs.Fmt.{decimal};
 ghost use Rattle.dex_line.specs.Captured.{frames_in, is_refused};
 ghost use Rattle.dex_line.specs.FrameShapes.{captured_seen};
-ghost use Rattle.dex_cli.specs.Answers.{ChecksLine, has_refused};
+ghost use Rattle.dex_cli.specs.Answers.{has_refused};
 ghost use Rattle.dex_cli.specs.Texts.{both, line, shown, frame_text, frame_line, frames_text};
 
-use crate::answer::Answer;
-use crate::job::INPUT_BYTES;
 use crate::report::{put, put_count, put_number};
 use crate::status::{DONE, INPUT_REFUSED};
 use dex_line::{Captured, Frames};
-use segments::SetReason;
 use std::alloc::{AllocError, Global};
-
-/// The answer to an input, which is refused where it is longer than any may be.
-pub fn check_line(input: Vec<u8>) -> Answer
-    ensures { ChecksLine input.items result }
-{
-    if input.len() > INPUT_BYTES {
-        return Answer::Refused {
-            place: INPUT_BYTES,
-            reason: SetReason::Limit,
-        };
-    }
-    Answer::Line(input)
-}
 
 /// Prints the frames of captured bytes, and answers the status.
 pub fn put_captured(alloc: Global, out: &mut Vec<u8>, captured: &[u8]) -> Result<u8, AllocError>

@@ -1,30 +1,25 @@
 //! `check text`: the answer to a transmission.
 
-ghost use Rattle.std.specs.Prelude.{IfOk};
+ghost use Rattle.std.specs.Prelude.{◌≤◌, IfOk, length};
 ghost use Rattle.dxs_envelope.specs.FirstFault.{told_of};
 ghost use Rattle.dex_cli.specs.Answers.{ChecksText};
 ghost use Rattle.dex_cli.specs.Summaries.{IsSummedUp};
 ghost use Rattle.dex_cli.specs.TextSteps.{IsSaid, IsStep};
+ghost use Rattle.dex_cli.specs.declared.job.TheConstants.{INPUT_BYTES};
 
 use crate::answer::Answer;
-use crate::job::INPUT_BYTES;
 use crate::summary::{SetSummary, summary_of};
 use crate::text_summary::{TextEnding, TextSummary};
 use dsd_record::set_of;
 use dxs_envelope::{SetSlice, Sets};
-use segments::{SetFault, SetReason};
+use segments::SetFault;
 use std::alloc::{AllocError, Global};
 
-/// The answer to an input, which is refused where it is longer than any may be.
+/// The answer to an input.
 pub fn check_text(alloc: Global, input: &[u8]) -> Result<Answer, AllocError>
+    requires { length input.now ≤ INPUT_BYTES }
     ensures { IfOk result (ChecksText input.now) }
 {
-    if input.len() > INPUT_BYTES {
-        return Ok(Answer::Refused {
-            place: INPUT_BYTES,
-            reason: SetReason::Limit,
-        });
-    }
     let text = sum_up(alloc, input)?;
     Ok(Answer::Text(text))
 }

@@ -9,7 +9,6 @@ ghost use Rattle.dex_cli.specs.Formatting.{Served};
 ghost use Rattle.dex_cli.specs.declared.answer.Answer.{Answer as AnswerValue};
 
 use crate::answer::Answer;
-use crate::check_line::check_line;
 use crate::check_set::check_set;
 use crate::check_text::check_text;
 use crate::fault::WordsFault;
@@ -18,6 +17,7 @@ use crate::report::text_of;
 use crate::status::{NO_MEMORY, SINK_FAILED};
 use crate::words::{CheckKind, Job, read_words};
 use dsd_station::{ReadFault, Sink, Source, Station, read_up_to, write_all};
+use segments::SetReason;
 use std::alloc::{AllocError, Global};
 
 /// The most bytes of an input.
@@ -102,14 +102,20 @@ fn check<S: Source>(alloc: Global, kind: CheckKind, source: &mut S) -> Result<An
     }
 }
 
-/// The answer of a check to its input.
+/// The answer of a check to its input, which is refused where it is longer than any may be.
 fn judge(alloc: Global, kind: CheckKind, input: Vec<u8>) -> Result<Answer, AllocError>
     ensures { IfOk result (Checks kind input.items) }
 {
+    if input.len() > INPUT_BYTES {
+        return Ok(Answer::Refused {
+            place: INPUT_BYTES,
+            reason: SetReason::Limit,
+        });
+    }
     match kind {
         CheckKind::Set => check_set(alloc, &input),
         CheckKind::Text => check_text(alloc, &input),
-        CheckKind::Line => Ok(check_line(input)),
+        CheckKind::Line => Ok(Answer::Line(input)),
     }
 }
 

@@ -69,20 +69,20 @@ fn put_answer(alloc: Global, out: &mut Vec<u8>, answer: &Answer) -> Result<u8, A
     ensures status { IfOk result (λ status. status ≡ status_of answer.now) }
 {
     match answer {
-        Answer::Words => put_ending(out, "WORDS", WORDS_REFUSED),
-        Answer::SourceFault => put_ending(out, "FAULT SOURCE", SOURCE_FAILED),
-        Answer::StationFault => put_ending(out, "FAULT STATION", STATION_FAILED),
+        Answer::Words => put_alone(out, "WORDS", WORDS_REFUSED),
+        Answer::SourceFault => put_alone(out, "FAULT SOURCE", SOURCE_FAILED),
+        Answer::StationFault => put_alone(out, "FAULT STATION", STATION_FAILED),
         Answer::Refused { place, reason } => {
             put_refusal(alloc, out, *place, reason)?;
             Ok(INPUT_REFUSED)
         }
         Answer::Set(summary) => {
             put_set(alloc, out, summary)?;
-            put_ending(out, "OK", DONE)
+            put_alone(out, "OK", DONE)
         }
         Answer::Text(text) => put_text(alloc, out, text),
         Answer::Line(captured) => put_captured(alloc, out, captured),
-        Answer::Formatted => put_ending(out, "FORMATTED", DONE),
+        Answer::Formatted => put_alone(out, "FORMATTED", DONE),
         Answer::NotEmpty(size) => {
             put_count(alloc, out, "NOT EMPTY", *size)?;
             Ok(JOURNAL_REFUSED)
@@ -91,7 +91,7 @@ fn put_answer(alloc: Global, out: &mut Vec<u8>, answer: &Answer) -> Result<u8, A
 }
 
 /// A text that is all that is printed, and the status that goes with it.
-fn put_ending(out: &mut Vec<u8>, text: &str, status: u8) -> Result<u8, AllocError>
+fn put_alone(out: &mut Vec<u8>, text: &str, status: u8) -> Result<u8, AllocError>
     ensures text { OnOk result (out.new.items ≡ out.old.items ++ line text.now) }
     ensures status { IfOk result (λ answer. answer ≡ status) }
 {
