@@ -1,12 +1,13 @@
 -- How large a share of a basis is, and what the extras of a line or of a record move at most.
 use Rattle.std.proofs.Common.{◌≡◌, ℕ, ◌+◌, ◌*◌, ◌/◌, ◌%◌, ◌^◌, ◌<◌, ◌≤◌, ap, arith}
 use Rattle.std.proofs.Math.Nat.{mul-le-mul, mul-le-mul_left}
+use Rattle.dsd_values.specs.declared.percent.TheConstants.Percent.{MAX}
 use Rattle.dsd_pricing.specs.Bounds.{most_effect}
 use Rattle.dsd_pricing.specs.Pricing.{share}
 
 -- a percent below a thousand is less than ten times the basis
-pub share_small : (basis percent : ℕ) → percent ≤ 99_999 → share basis percent ≤ 10 * basis
-share_small basis percent h = let most : basis * percent ≤ basis * 99_999 = mul-le-mul_left basis h in omega arith
+pub share_small : (basis percent : ℕ) → percent ≤ MAX → share basis percent ≤ 10 * basis
+share_small basis percent h = let most : basis * percent ≤ basis * MAX = mul-le-mul_left basis h in omega arith
 
 -- the whole ten-thousands of a basis need no rounding
 share_split : (basis percent : ℕ) → share basis percent ≡ basis / 10_000 * percent + (basis % 10_000 * percent + 5_000) / 10_000

@@ -1,8 +1,7 @@
 -- The text of a set that is written, and why it is not.
-use Rattle.std.proofs.Common.{◌≡◌, ℕ, ◌≤◌, inl, inr, nat_lt, List, length, Option, Some, None, Result, Ok, Err, refl, sym, ◌∙◌, ap, arith}
+use Rattle.std.proofs.Common.{◌≡◌, ◌⊎◌, ℕ, ◌<◌, ◌≤◌, inl, inr, true, false, nat_lt, List, length, Option, Some, None, Result, Ok, Err, refl, sym, ◌∙◌, ap, arith}
 use Rattle.std.proofs.lemmas.Bool.{cases_Bool}
 use Rattle.std.proofs.lemmas.Bool.Decides.{nat_tests}
-use Rattle.dsd_values.specs.Answers.{UnlessMemory}
 use Rattle.dsd_values.specs.declared.limits.TheConstants.{SET_BYTES}
 use Rattle.dsd_pricing.specs.WholeText.{unless_too_long, whole}
 use Rattle.dsd_pricing.specs.declared.fault.PriceFault.{PriceFault}
@@ -36,13 +35,25 @@ pub one_long : (long : Option ℕ) (all : List ℕ) (size : ℕ) → long ≡ So
 one_long long all size some = ap (λ (l : Option ℕ). unless_too_long l all) (sym some)
 
 -- rows are not refused for a price
-pub never_priced : (long : Option ℕ) (text : List ℕ) (first answer : Result (List ℕ) WriteFault) (passed : WriteFault) → first ≡ Err passed → answer ≡ Err passed → UnlessMemory Memory first (unless_too_long long text) → (fault : PriceFault) → answer ≡ Err (Price fault) → ⊥
-never_priced long text first answer passed e f (inl none) fault g = let no : Err Memory ≡ Err (Price fault) = sym none ∙ e ∙ sym f ∙ g in cc
-never_priced (Some size) text first answer passed e f (inr is) fault g = let no : Err (LongSegment size) ≡ Err (Price fault) = sym is ∙ e ∙ sym f ∙ g in cc
-never_priced None text first answer passed e f (inr is) fault g = let no : Ok text ≡ Err (Price fault) = sym is ∙ e ∙ sym f ∙ g in cc
+pub never_priced : {X : Type 0} (long : Option ℕ) (text : List ℕ) (answer : Result X WriteFault) (passed : WriteFault) → answer ≡ Err passed → (passed ≡ Memory) ⊎ (unless_too_long long text ≡ Err passed) → (fault : PriceFault) → answer ≡ Err (Price fault) → ⊥
+never_priced long text answer passed e (inl none) fault g = let no : Err Memory ≡ Err (Price fault) = ap (λ (u : WriteFault). Err u) (sym none) ∙ sym e ∙ g in cc
+never_priced (Some size) text answer passed e (inr is) fault g =
+    let no : answer ≡ Err (LongSegment size) = cc in
+    cc
+never_priced None text answer passed e (inr is) fault g = cc
 
 -- the text that was answered is the one of all rows
-pub text_is : (long : Option ℕ) (all text : List ℕ) (answer : Result (List ℕ) WriteFault) → answer ≡ Ok text → UnlessMemory Memory answer (unless_too_long long all) → (long ≡ None) × (all ≡ text)
-text_is long all text answer e (inl none) = let no : Ok text ≡ Err Memory = sym e ∙ none in cc
-text_is (Some size) all text answer e (inr is) = let no : Ok text ≡ Err (LongSegment size) = sym e ∙ is in cc
-text_is None all text answer e (inr is) = let same : Ok text ≡ Ok all = sym e ∙ is in (refl, cc (same))
+pub text_is : (long : Option ℕ) (all text : List ℕ) → unless_too_long long all ≡ Ok text → (long ≡ None) × (all ≡ text)
+text_is (Some size) all text e = cc
+text_is None all text e = (refl, cc (e))
+
+-- what is answered of the text of all rows, which is judged by its length
+pub whole_short : (long : Option ℕ) (all text : List ℕ) → unless_too_long long all ≡ Ok text → length text ≤ SET_BYTES → whole (unless_too_long long all) ≡ Ok text
+whole_short long all text e short = let low : nat_lt 262_144 (length text) ≡ false = grind (arith, nat_tests) in ap whole e ∙ rw low refl
+
+pub whole_long : (long : Option ℕ) (all text : List ℕ) → unless_too_long long all ≡ Ok text → SET_BYTES < length text → whole (unless_too_long long all) ≡ Err (LongSet (length text))
+whole_long long all text e over = let high : nat_lt 262_144 (length text) ≡ true = grind (arith, nat_tests) in ap whole e ∙ rw high refl
+
+pub whole_refused : (long : Option ℕ) (all : List ℕ) (passed : WriteFault) → (passed ≡ Memory) ⊎ (unless_too_long long all ≡ Err passed) → (passed ≡ Memory) ⊎ (whole (unless_too_long long all) ≡ Err passed)
+whole_refused long all passed (inl none) = inl none
+whole_refused long all passed (inr e) = inr (ap whole e)

@@ -1,14 +1,17 @@
 -- What the rows of a delivery come to, in whole cents (this project's profile: the standard leaves the rounding, the methods and the order
 -- of an allowance's forms to the partners).
-use Rattle.std.specs.Prelude.{ℕ, ℤ, pos, neg_ℤ, ◌+ℤ◌, int_lt, unsigned_abs, ◌+◌, ◌*◌, ◌/◌, ◌≤◌, Bool, ◌||◌, if◌then◌else◌, IsTrue, IsSome, List, length, fold, All, Option, Some, None, Result, Ok, Err, bytes_eq, codes, ⊤}
+use Rattle.std.specs.Prelude.{ℕ, ℤ, pos, neg_ℤ, ◌+ℤ◌, int_lt, unsigned_abs, ◌+◌, ◌*◌, ◌/◌, ◌≤◌, if◌then◌else◌, IsTrue, IsSome, List, length, fold, All, Option, Some, None, Result, Ok, Err, ⊤}
 use Rattle.std.specs.List.{sum_by}
 use Rattle.std.specs.Option.{option_map, option_or, unwrap_or}
+use Rattle.dsd_values.specs.Methods.{counts, method_of}
 use Rattle.dsd_values.specs.declared.allowance.Allowance.{Allowance}
 use Rattle.dsd_values.specs.declared.cents.TheConstants.Cents.{MAX as MOST_CENTS}
 use Rattle.dsd_values.specs.declared.extra.Extra.{Extra}
 use Rattle.dsd_values.specs.declared.extra.Extra.TheVariants.{Allow, Note}
 use Rattle.dsd_values.specs.declared.limits.TheConstants.{MOST_LINES}
 use Rattle.dsd_values.specs.declared.line.Line.{Line}
+use Rattle.dsd_values.specs.declared.method.Method.{Method}
+use Rattle.dsd_values.specs.declared.method.Method.TheVariants.{Lowers, Raises, Other}
 use Rattle.dsd_pricing.specs.declared.amounts.Totals.{Totals}
 use Rattle.dsd_pricing.specs.declared.fault.PriceFault.{PriceFault}
 use Rattle.dsd_pricing.specs.declared.fault.PriceFault.TheVariants.{Negative, TooLarge}
@@ -43,24 +46,19 @@ size_by None None quantity percent basis = option_map (share basis) percent
 abbrev pub size : Allowance → ℕ → Option ℕ → Option ℕ
 size allowance basis quantity = size_by allowance.total allowance.rate (option_or allowance.quantity quantity) allowance.percent basis
 
--- the methods that lower and that raise an amount
-abbrev pub lowers : List ℕ → Bool
-lowers method = bytes_eq method (codes "02")
-
-abbrev pub raises : List ℕ → Bool
-raises method = bytes_eq method (codes "06")
-
 -- an allowance that changes an amount has a size
 abbrev pub HasSize : Allowance → Option ℕ → Type 0
-HasSize allowance quantity = (basis : ℕ) → IsTrue (lowers allowance.method || raises allowance.method) → IsSome (size allowance basis quantity)
+HasSize allowance quantity = (basis : ℕ) → IsTrue (counts allowance.method) → IsSome (size allowance basis quantity)
 
 -- the size as a change of the amount
-abbrev pub change : List ℕ → ℕ → ℤ
-change method cents = if lowers method then neg_ℤ (pos cents) else (if raises method then pos cents else pos 0)
+abbrev pub change : Method → ℕ → ℤ
+change Lowers cents = neg_ℤ (pos cents)
+change Raises cents = pos cents
+change Other cents = pos 0
 
 -- what an allowance changes of a basis
 abbrev pub effect : Allowance → ℕ → Option ℕ → ℤ
-effect allowance basis quantity = change allowance.method (unwrap_or (size allowance basis quantity) 0)
+effect allowance basis quantity = change (method_of allowance.method) (unwrap_or (size allowance basis quantity) 0)
 
 -- ---- what stands behind a line, or at record level
 

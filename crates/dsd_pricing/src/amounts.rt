@@ -3,6 +3,7 @@
 ghost use Rattle.std.specs.Prelude.{◌≡◌, ◌≤◌, ◌*◌, ◌+ℤ◌, ℕ, ℤ, pos, length, All, None, Some};
 ghost use Rattle.dsd_pricing.specs.Bounds.{IsWithin, most_lines_effects};
 ghost use Rattle.dsd_pricing.specs.Pricing.{ArePriced, HasSizeIn, HaveSizes, effects, extensions, line_effects, priced, quantities, signed_sum_by, totals_from, totals_of};
+ghost use Rattle.dsd_pricing.specs.Pricing.{quantities as sum_of_quantities};
 ghost use Rattle.dsd_values.specs.declared.limits.TheConstants.{MOST_LINES};
 
 use crate::effects::effects_of;
@@ -34,6 +35,18 @@ pub fn amount_of(lines: &[Line], extras: &[Extra]) -> Result<Totals, PriceFault>
 {
     let sums = sums_over(lines);
     totals_in(sums.quantity, sum_with(sums, extras))
+}
+
+/// The sum of the quantities of these lines.
+pub fn quantities(lines: &[Line]) -> u32
+    requires { length lines.now ≤ MOST_LINES }
+    ensures { result ≡ sum_of_quantities lines.now }
+{
+    let mut sum = 0;
+    for line in lines {
+        sum += line.quantity.get();
+    }
+    sum
 }
 
 /// The sums over lines: of their quantities, of their extensions, and of what their extras change.

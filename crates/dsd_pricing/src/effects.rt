@@ -1,25 +1,22 @@
 //! What allowances and charges change of an amount.
 
-ghost use Rattle.std.specs.Prelude.{◌≡◌, ◌≤◌, ◌≤ℤ◌, ◌*◌, ◌+◌, ◌^◌, ℤ, pos, All, IsSome, bytes_eq, unwrap_or};
+ghost use Rattle.std.specs.Prelude.{◌≡◌, ◌≤◌, ◌≤ℤ◌, ◌*◌, ◌+◌, ◌^◌, ℤ, pos, All, IsSome, unwrap_or};
 ghost use Rattle.dsd_pricing.specs.Bounds.{IsWithin, most_effect, most_effects};
 ghost use Rattle.dsd_pricing.specs.Pricing.{HasSize, HasSizeIn, effect, effect_in, effects, share, size};
 
 use crate::extensions::extension;
-use dsd_values::{Allowance, Extra, Percent, Quantity};
+use dsd_values::{Allowance, Extra, Method, Percent, Quantity};
 
-/// What an allowance changes of a basis in cents: method `02` lowers it, `06` raises it, and every
-/// other changes nothing. The quantity counts where a rate does and the allowance has none itself.
+/// What an allowance changes of a basis in cents. The quantity counts where a rate does and the allowance has none itself.
 pub fn effect_of(allowance: &Allowance, basis: u64, quantity: Option<Quantity>) -> i128
     requires { HasSize allowance.now quantity }
     ensures value { result ≡ effect allowance.now basis quantity }
     ensures within { IsWithin (most_effect basis) result }
 {
-    if has_method(allowance, b"02") {
-        -size_of(allowance, basis, quantity)
-    } else if has_method(allowance, b"06") {
-        size_of(allowance, basis, quantity)
-    } else {
-        0
+    match Method::named(allowance.method.as_slice()) {
+        Method::Lowers => -size_of(allowance, basis, quantity),
+        Method::Raises => size_of(allowance, basis, quantity),
+        Method::Other => 0,
     }
 }
 
@@ -43,15 +40,9 @@ fn extra_effect(extra: &Extra, basis: u64, quantity: &Option<Quantity>) -> i128
     ensures within { IsWithin (most_effect basis) result }
 {
     match extra {
-        Extra::Allow(allowance) => effect_of(allowance, basis, *quantity),
+        Extra::Allow(allowance) => effect_of(allowance.get(), basis, *quantity),
         Extra::Note(_) => 0,
     }
-}
-
-fn has_method(allowance: &Allowance, code: &[u8]) -> bool
-    ensures { result ≡ bytes_eq allowance.now.method code.now }
-{
-    allowance.method.as_slice() == code
 }
 
 fn size_of(allowance: &Allowance, basis: u64, quantity: Option<Quantity>) -> i128

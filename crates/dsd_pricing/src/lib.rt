@@ -6,7 +6,7 @@ mod effects;
 mod extensions;
 mod fault;
 
-pub use amounts::{Totals, amount_of, sum_of};
+pub use amounts::{Totals, amount_of, quantities, sum_of};
 pub use effects::effect_of;
 pub use extensions::extension;
 pub use fault::{PriceFault, WriteFault};

@@ -4,3 +4,6 @@ pub mod Calendar
 pub mod Spelling
 pub mod Writing
 pub mod Behind
+pub mod SignatureRecord
+pub mod HeldText
+pub mod Methods

@@ -10,12 +10,13 @@ use crate::percent::Percent;
 use crate::quantity::Quantity;
 use crate::word::Word;
 use std::alloc::Global;
+use std::marker::Model;
 
 /// What raises or lowers an amount: the elements of a G72 in their order.
 #[derive(Debug, Drop)]
 pub struct Allowance {
     pub code: Word,
-    /// In this project `02` lowers the amount, `06` raises it, and every other changes none.
+    /// Names a `Method`.
     pub method: Word,
     pub number: Word,
     pub exception: Word,
@@ -44,5 +45,40 @@ impl Allowance {
             percent: self.percent,
             tail: self.tail.try_copy(alloc)?,
         })
+    }
+}
+
+/// An allowance that stands apart from the list that it is in: so the other extras of a list are small.
+#[derive(Debug, Drop)]
+pub struct HeldAllowance {
+    allowance: Box<Allowance>,
+}
+
+impl Model for HeldAllowance {
+    ghost use Rattle.dsd_values.specs.declared.allowance.Allowance.{Allowance as Item};
+
+    ghost Value = { Item };
+
+    ghost view = { λ held. held.allowance.value };
+}
+
+impl HeldAllowance {
+    pub fn new(alloc: Global, allowance: Allowance) -> Result<HeldAllowance, Memory>
+        ensures { IfOk result (λ held. held ≡ allowance) }
+    {
+        let allowance = Box::new(alloc, allowance)?;
+        Ok(HeldAllowance { allowance })
+    }
+
+    pub fn get(&self) -> &Allowance
+        ensures { result.now ≡ self.now }
+    {
+        &self.allowance
+    }
+
+    pub fn try_copy(&self, alloc: Global) -> Result<HeldAllowance, Memory>
+        ensures { IfOk result (λ copy. copy ≡ self.now) }
+    {
+        HeldAllowance::new(alloc, self.allowance.try_copy(alloc)?)
     }
 }

@@ -6,6 +6,7 @@ ghost use Rattle.dsd_values.specs.Reading.{check_of, is_no_check_byte};
 ghost use Rattle.dsd_values.specs.Spelling.{SpellsCheck};
 
 use crate::fault::ValueFault;
+use std::fmt;
 use std::marker::Model;
 
 /// How many digits a check has.
@@ -40,6 +41,12 @@ impl Check {
         ensures { result ≡ self }
     {
         self.value
+    }
+}
+
+impl fmt::Display for Check {
+    fn fmt<W: fmt::Write>(&self, f: &mut fmt::Formatter<W>) -> fmt::Result {
+        write!(f, "{:04X}", self.value)
     }
 }
 

@@ -12,7 +12,7 @@ use std::marker::Model;
 pub const DELIVERY_NUMBER_BYTES: usize = 22;
 
 /// The text that names a delivery: 1 to 22 element characters without a space.
-#[derive(Debug, Drop)]
+#[derive(Debug, Drop, PartialEq, Eq, Hash)]
 pub struct DeliveryNumber {
     text: ArrayVec<u8, DELIVERY_NUMBER_BYTES>,
 }
@@ -20,12 +20,15 @@ pub struct DeliveryNumber {
 impl Model for DeliveryNumber {
     ghost use Rattle.std.specs.Prelude.{◌<◌, ◌≤◌, ℕ, List, length};
     ghost use Rattle.dsd_values.specs.Reading.{IsNumberText};
+    ghost use Rattle.dsd_values.specs.declared.delivery_number.TheConstants.{DELIVERY_NUMBER_BYTES};
 
     ghost Value = { List ℕ };
 
     ghost view = { λ n. n.text.items };
 
-    ghost invariant = { λ n. IsNumberText n.text.items × (0 < length n.text.items) × (length n.text.items ≤ 22) };
+    ghost invariant = { λ n. IsNumberText n.text.items × (0 < length n.text.items) × (length n.text.items ≤ DELIVERY_NUMBER_BYTES) };
+
+    ghost inverse = { λ n. record { text = record { items = n } } };
 }
 
 impl DeliveryNumber {

@@ -6,6 +6,7 @@ ghost use Rattle.dsd_values.specs.Spelling.{SpellsDsd};
 
 use crate::fault::ValueFault;
 use crate::number::number_within;
+use std::fmt;
 use std::marker::Model;
 
 /// The number by which both ends name a line of a delivery.
@@ -48,6 +49,12 @@ impl DsdNumber {
         ensures high { result ≤ Self.MAX }
     {
         self.value
+    }
+}
+
+impl fmt::Display for DsdNumber {
+    fn fmt<W: fmt::Write>(&self, f: &mut fmt::Formatter<W>) -> fmt::Result {
+        write!(f, "{}", self.value)
     }
 }
 

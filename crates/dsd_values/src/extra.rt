@@ -2,7 +2,7 @@
 
 ghost use Rattle.std.specs.Prelude.{◌≡◌, [], ◌∷◌, ◌++◌, IfOk, OnErr, OnOk};
 
-use crate::allowance::Allowance;
+use crate::allowance::HeldAllowance;
 use crate::fault::Memory;
 use crate::kept::Kept;
 use std::alloc::Global;
@@ -11,7 +11,7 @@ use std::marker::Model;
 /// An allowance, or a note that changes no price.
 #[derive(Debug, Drop)]
 pub enum Extra {
-    Allow(Allowance),
+    Allow(HeldAllowance),
     /// The id and the elements of the note's segment, joined by `*`.
     Note(Kept),
 }
@@ -54,13 +54,13 @@ impl Extras {
         }
     }
 
-    // Inlined, as each call around it is: so an extra, of some 300 bytes, is written once, in its place.
+    // Inlined, as each call around it is: so an extra is written once, in its place.
     #[inline(always)]
     pub fn push(&mut self, item: Extra) -> Result<(), Memory>
         ensures ok { OnOk result (self.new ≡ self.old ++ item ∷ []) }
         ensures err { OnErr result (self.new ≡ self.old) }
     {
-        // An extra is large and is seldom alone: where lists grew by steps, the first few would be moved.
+        // An extra is seldom alone: where lists grew by steps, the first few would be moved.
         if self.items.is_empty() {
             self.items.reserve(FIRST_ROOM)?;
         }

@@ -7,6 +7,7 @@ ghost use Rattle.dsd_values.specs.Spelling.{SpellsLevel};
 use crate::fault::ValueFault;
 use crate::limits::HIGHEST_LEVEL;
 use crate::number::number_within;
+use std::fmt;
 use std::marker::Model;
 
 /// The level of a proposal. The base record has level 0, and each adjustment the next one.
@@ -44,6 +45,12 @@ impl Level {
         ensures within { result ≤ Self.MAX }
     {
         self.value
+    }
+}
+
+impl fmt::Display for Level {
+    fn fmt<W: fmt::Write>(&self, f: &mut fmt::Formatter<W>) -> fmt::Result {
+        write!(f, "{}", self.value)
     }
 }
 

@@ -18,6 +18,7 @@ mod kept;
 mod level;
 mod limits;
 mod line;
+mod method;
 mod number;
 mod percent;
 mod quantity;
@@ -27,7 +28,7 @@ mod signature;
 mod word;
 mod writers;
 
-pub use allowance::Allowance;
+pub use allowance::{Allowance, HeldAllowance};
 pub use cents::{Cents, read_cents};
 pub use check::{Check, read_check};
 pub use comm_id::{COMM_ID_BYTES, CommId, read_comm_id};
@@ -40,8 +41,11 @@ pub use fault::{KeptFault, Memory, ValueFault};
 pub use flag::{Flag, read_flag};
 pub use kept::Kept;
 pub use level::{Level, read_level};
-pub use limits::{HIGHEST_LEVEL, KEPT_BYTES, MOST_ALLOWANCES, MOST_LINES, SET_BYTES, WORD_BYTES};
+pub use limits::{
+    HIGHEST_LEVEL, KEPT_BYTES, MARK_BYTES, MOST_ALLOWANCES, MOST_LINES, SET_BYTES, WORD_BYTES,
+};
 pub use line::{Line, Lines};
+pub use method::Method;
 pub use number::read_number;
 pub use percent::{PERCENT_DECIMALS, Percent, read_percent};
 pub use quantity::{MOST_TOTAL_QUANTITY, Quantity, read_quantity, read_total_quantity};

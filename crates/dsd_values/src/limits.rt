@@ -17,3 +17,6 @@ pub const KEPT_BYTES: usize = 512;
 
 /// The most bytes of a word.
 pub const WORD_BYTES: usize = 35;
+
+/// The most bytes of the mark of a signature.
+pub const MARK_BYTES: usize = 12;

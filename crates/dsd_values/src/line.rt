@@ -80,6 +80,11 @@ impl Lines {
         ensures ok { OnOk result (self.new ≡ self.old ++ item ∷ []) }
         ensures err { OnErr result (self.new ≡ self.old) }
     {
+        // A line is large: the list grows to four times its length, so that lines are seldom moved.
+        let count = self.items.len();
+        if count == self.items.capacity() {
+            self.items.reserve(count.saturating_mul(3))?;
+        }
         self.items.push(item)?;
         Ok(())
     }
