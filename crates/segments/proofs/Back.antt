@@ -3,7 +3,7 @@ use Rattle.std.proofs.Common.{◌≡◌, ℕ, ◌+◌, Bool, true, false, List, 
 use Rattle.dsd_values.specs.declared.extra.Extra.{Extra}
 use Rattle.dsd_values.specs.declared.extra.Extra.TheVariants.{Allow, Note}
 use Rattle.dsd_values.specs.declared.line.Line.{Line}
-use Rattle.dsd_values.specs.declared.signature.Signature.{Signature}
+use Rattle.dsd_values.specs.SignatureRecord.{SignatureRecord}
 use Rattle.segments.specs.Views.{Seg}
 use Rattle.segments.specs.Allowances.{IsAllowance, allowance_in}
 use Rattle.segments.specs.Extras.{allowances, extra_in, is_note, kept_text}
@@ -19,7 +19,7 @@ use Rattle.segments.specs.declared.kind.Kind.{Kind}
 use Rattle.segments.specs.declared.kind.Kind.TheVariants as kinds
 use Rattle.segments.specs.declared.phase.Phase.{Phase}
 use Rattle.segments.specs.declared.phase.Phase.TheVariants as phases
-use Rattle.segments.proofs.Small.{both_none, not_when, no_value, same_bytes, same_number}
+use Rattle.segments.proofs.Small.{both_none, not_when, no_value, same_bytes, same_number, same_some}
 use Rattle.segments.proofs.Faultless.{item_right, item_beside, loop_start_right, loop_end_right, totals_right, signature_right, integrity_right, trailer_right}
 use Rattle.segments.proofs.RightAllowances.{allowance_right}
 use Rattle.segments.proofs.Behind.{with_extras, with_extras_last, extended_by}
@@ -179,7 +179,7 @@ module _ (form : Form) (m : SoFar) (t : Shared) (before : List Seg) (seg : Seg) 
   signature_back : From phases.Signature kinds.Signature
   unfolding kept
   signature_back p k e at (read, totals, g, rest) =
-      (read, totals, (k, subst (λ (u : Signature). IsSignature u seg) (sym g) (signature_right seg (no_value _ e)), rest))
+      (read, totals, (k, subst (λ (u : SignatureRecord). IsSignature u seg) (sym (same_some _ _ g)) (signature_right seg (no_value _ e)), rest))
 
   integrity_back : From phases.Integrity kinds.Integrity
   unfolding kept

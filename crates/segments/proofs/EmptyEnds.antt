@@ -59,7 +59,7 @@ trim_drop zero parts = refl
 trim_drop (suc number) [] = refl
 trim_drop (suc number) (part ∷ more) = drop_in_front part (without_empty_end more) number ∙ trim_drop number more
 
-length_in_front : (part : List ℕ) (parts : List (List ℕ)) → length (in_front part parts) ≤ suc (length parts)
+pub length_in_front : (part : List ℕ) (parts : List (List ℕ)) → length (in_front part parts) ≤ suc (length parts)
 length_in_front [] [] = omega arith
 length_in_front [] (next ∷ more) = omega arith
 length_in_front (byte ∷ part) parts = omega arith

@@ -1,15 +1,17 @@
 -- Segments whose elements are all right say what the grammar asks, and those that say it are right.
-use Rattle.std.proofs.Common.{◌≡◌, ℕ, Bool, true, false, List, [], ◌++◌, Option, Some, None, Ok, refl, sym, ap, ◌∙◌, if◌then◌else◌}
+use Rattle.std.proofs.Common.{◌≡◌, ℕ, ◌<◌, ◌≤◌, Bool, true, false, List, [], ◌++◌, length, Option, Some, None, Ok, refl, sym, ap, ◌∙◌, subst, if◌then◌else◌}
 use Rattle.dsd_values.specs.declared.extra.Extra.{Extra}
 use Rattle.dsd_values.specs.declared.line.Line.{Line}
-use Rattle.dsd_values.specs.declared.signature.Signature.{Signature}
+use Rattle.dsd_values.specs.SignatureRecord.{SignatureRecord}
 use Rattle.segments.specs.Views.{Seg, element_of}
-use Rattle.segments.specs.Elements.{ElementFault}
+use Rattle.segments.specs.Elements.{ElementFault, at_element, said}
 use Rattle.segments.specs.Tables.{item_fault, line_in, start_fault, control_in, loop_start_fault, loop_id_in, totals_fault, totals_in, signature_fault, signature_in, integrity_fault, integrity_in, trailer_fault, stated_count_in, control_again_in}
 use Rattle.segments.specs.Reasons.{loop_end_fault}
 use Rattle.segments.specs.Grammar.{IsStart, IsLoopId, IsItem, IsTotals, IsSignature, IsNoLonger}
 use Rattle.segments.specs.declared.stated.StatedTotals.{StatedTotals}
-use Rattle.dsd_values.specs.Reading.{check_of, plain_number_of, filled_word_of}
+use Rattle.dsd_values.specs.Reading.{check_of, plain_number_of, filled_word_of, word_between}
+use Rattle.dsd_values.specs.declared.limits.TheConstants.{MARK_BYTES}
+use Rattle.dsd_values.proofs.Laws.{word_between_spelled}
 use Rattle.segments.proofs.Small.{both_none, none_then, at_ok, ok_at, ok_said, are_empty, empty_ones, bytes_are, are_bytes}
 
 -- ---- items
@@ -148,13 +150,20 @@ signature_right seg e =
     let b = both_none _ _ a.1 in
     record { mark = at_ok 1 [] _ a.0; name = at_ok 2 [] _ b.0; ends = are_empty _ _ b.1 }
 
-pub right_signature : (signature : Signature) (seg : Seg) → IsSignature signature seg → signature_fault seg ≡ None
+-- a mark that was read has its length
+pub mark_length : (text mark : List ℕ) → at_element 1 (word_between 1 MARK_BYTES text) ≡ None → mark ≡ said [] (word_between 1 MARK_BYTES text) → (0 < length mark) × (length mark ≤ MARK_BYTES)
+mark_length text mark e is =
+    let s = (word_between_spelled 1 MARK_BYTES text _ refl _).0 (at_ok 1 [] _ e) in
+    let same : text ≡ mark = s.same ∙ sym is in
+    subst (λ (word : List ℕ). (0 < length word) × (length word ≤ MARK_BYTES)) same (s.filled, s.short)
+
+pub right_signature : (signature : SignatureRecord) (seg : Seg) → IsSignature signature seg → signature_fault seg ≡ None
 right_signature signature seg s = none_then _ _ (ok_at 1 _ _ s.mark) (none_then _ _ (ok_at 2 _ _ s.name) (empty_ones _ _ s.ends))
 
-same_signature : (a b : Signature) → a.mark ≡ b.mark → a.name ≡ b.name → a ≡ b
+same_signature : (a b : SignatureRecord) → a.mark ≡ b.mark → a.name ≡ b.name → a ≡ b
 same_signature a b e1 e2 = ap (λ (v : List ℕ). record { mark = v; name = a.name }) e1 ∙ ap (λ (v : List ℕ). record { mark = b.mark; name = v }) e2
 
-pub signature_said : (signature : Signature) (seg : Seg) → IsSignature signature seg → signature ≡ signature_in seg
+pub signature_said : (signature : SignatureRecord) (seg : Seg) → IsSignature signature seg → signature ≡ signature_in seg
 signature_said signature seg s = same_signature signature (signature_in seg) (ok_said [] _ _ s.mark) (ok_said [] _ _ s.name)
 
 -- ---- integrity value and trailer

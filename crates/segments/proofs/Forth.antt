@@ -1,5 +1,5 @@
 -- The front of the rest of a set is a segment without a reason against it, and the rest stands behind it.
-use Rattle.std.proofs.Common.{◌≡◌, ℕ, ◌+◌, ◌≤◌, ◌<◌, Bool, true, false, cond, List, [], ◌∷◌, ◌++◌, length, None, refl, sym, ap, ◌∙◌, subst, arith, append_assoc, append-nil, length-append}
+use Rattle.std.proofs.Common.{◌≡◌, ℕ, ◌+◌, ◌≤◌, ◌<◌, Bool, true, false, cond, List, [], ◌∷◌, ◌++◌, length, None, refl, sym, ap, ◌∙◌, subst, arith, append_assoc, append-nil, length-append, Some}
 use Rattle.std.specs.List.{All}
 use Rattle.dsd_values.specs.declared.extra.Extra.{Extra}
 use Rattle.dsd_values.specs.declared.extra.Extra.TheVariants.{Allow, Note}
@@ -139,7 +139,7 @@ module _ (form : Form) (m : SoFar) (t : Shared) (before : List Seg) (seg : Seg) 
 
   pub signature_on : RestAt phases.Signature form m t before (seg ∷ segs) → Goes phases.Signature kinds.Signature
   unfolding kept
-  signature_on (read, totals, (k, s, rest)) = (k, value_none _ (right_signature t.signature seg s), (read, totals, signature_said t.signature seg s, rest))
+  signature_on (read, totals, (k, s, rest)) = (k, value_none _ (right_signature t.signature seg s), (read, totals, ap Some (signature_said t.signature seg s), rest))
 
   pub integrity_on : RestAt phases.Integrity form m t before (seg ∷ segs) → Goes phases.Integrity kinds.Integrity
   unfolding kept

@@ -1,15 +1,14 @@
 -- A segment that is begun is given elements, one after another.
-use Rattle.std.proofs.Common.{◌≡◌, ℕ, ◌+◌, ◌<◌, ◌≤◌, true, false, List, [], ◌∷◌, ◌++◌, length, map, take, drop, get_or, position, Bor, Option, Some, None, IsSome, refl, sym, ◌∙◌, ap, subst, arith, append-nil, append_assoc, length-append}
+use Rattle.std.proofs.Common.{◌≡◌, ℕ, ◌+◌, ◌<◌, ◌≤◌, true, false, List, [], ◌∷◌, ◌++◌, length, map, take, drop, get_or, position, Bor, Option, Some, None, IsSome, refl, sym, ◌∙◌, ap, subst, arith, append_assoc, length-append}
 use Rattle.std.specs.List.{All, position_or_len, slice_split}
 use Rattle.std.proofs.lemmas.Bool.Decides.{nat_tests}
-use Rattle.std.proofs.lemmas.List.{get_or-map, length-map, length-take, take_all, take_more}
+use Rattle.std.proofs.lemmas.List.{get_or-map, length-map, take_more}
 use Rattle.std.proofs.lemmas.List.Elements.{All-get_or, All-head, All-tail}
 use Rattle.std.proofs.lemmas.List.Splits.{slice_split_first, slice_split_none}
 use Rattle.std.proofs.lemmas.List.Sums.{fails_before_first}
 use Rattle.dsd_values.specs.Reading.{IsElementText, is_no_element_byte}
 use Rattle.dsd_values.proofs.Digits.{none_all}
 use Rattle.dsd_values.proofs.Refusals.{none_outside}
-use Rattle.segments.specs.RowsWritten.{with_elements}
 use Rattle.segments.specs.SegmentSpelling.{IsPart, is_element_character, is_star}
 use Rattle.segments.specs.SegmentWriting.{Written, given, parts_of_begun}
 
@@ -47,13 +46,6 @@ pub record IsGivenTo (start now : Written) (elements : List (List ℕ)) (count :
   pub text : now.text ≡ start.text
   pub begun : now.begun ≡ Some (parts_of_begun start.begun ++ take count elements)
 
-begun_is : (begun : Option (List (List ℕ))) → IsSome begun → begun ≡ Some (parts_of_begun begun ++ [])
-begun_is (Some parts) h = ap (λ (l : List (List ℕ)). Some l) (sym (append-nil parts))
-begun_is None h = cc
-
-pub given_none : (start : Written) (elements : List (List ℕ)) → IsSome start.begun → IsGivenTo start start elements 0
-given_none start elements some = record { text = refl; begun = begun_is start.begun some }
-
 pub given_next : (start old new : Written) (elements : List (List ℕ)) (element : List ℕ) (count : ℕ) → IsGivenTo start old elements count → count < length elements → element ≡ get_or elements count [] → new ≡ given element old → IsGivenTo start new elements (count + 1)
 given_next start old new elements element count g inside is e = record {
   text = ap (λ (w : Written). w.text) e ∙ g.text;
@@ -67,24 +59,6 @@ given_next start old new elements element count g inside is e = record {
 
 abbrev seen : List ℕ → Option (List (List ℕ)) → Written
 seen text begun = record { text = text; begun = begun }
-
-pub given_all : (start now : Written) (elements : List (List ℕ)) (count : ℕ) → IsGivenTo start now elements count → length elements ≤ count → now ≡ with_elements elements start
-given_all start now elements count g all =
-    ap (λ (t : List ℕ). seen t now.begun) g.text
-    ∙ ap (seen start.text) (g.begun ∙ ap (λ (l : List (List ℕ)). Some (parts_of_begun start.begun ++ l)) (take_all count elements all))
-
-some_is : (begun : Option (List (List ℕ))) (parts : List (List ℕ)) → begun ≡ Some parts → IsSome begun
-some_is begun parts e = subst (λ (b : Option (List (List ℕ))). IsSome b) (sym e) refl
-
-pub still_begun : (start now : Written) (elements : List (List ℕ)) (count : ℕ) → IsGivenTo start now elements count → IsSome now.begun
-still_begun start now elements count g = some_is now.begun (parts_of_begun start.begun ++ take count elements) g.begun
-
-pub still_few : (start now : Written) (elements : List (List ℕ)) (count : ℕ) → IsGivenTo start now elements count → count < length elements → length (parts_of_begun start.begun) + length elements ≤ 31 → length (parts_of_begun now.begun) ≤ 30
-still_few start now elements count g inside few =
-    let size = length-append (parts_of_begun start.begun) (take count elements) in
-    let same = ap (λ (b : Option (List (List ℕ))). length (parts_of_begun b)) g.begun in
-    let taken = length-take count elements in
-    omega arith
 
 -- the element at a place of a list of slices
 pub slice_at : (slices : List (Bor (List ℕ))) (place : ℕ) (d : Bor (List ℕ)) → place < length slices → (get_or slices place d).now ≡ get_or (map (λ (e : Bor (List ℕ)). e.now) slices) place []

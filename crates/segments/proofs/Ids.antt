@@ -1,10 +1,10 @@
 -- Ids are short words.
-use Rattle.std.proofs.Common.{◌≡◌, ◌≢◌, ℕ, ◌≤◌, ◌&&◌, ◌||◌, Bool, true, false, not, nat_le, List, [], ◌∷◌, length, position, None, Ok, refl, arith, IsTrue}
+use Rattle.std.proofs.Common.{◌≡◌, ◌≢◌, ℕ, ◌≤◌, ◌&&◌, ◌||◌, Bool, true, false, not, nat_le, List, [], ◌∷◌, length, position, None, refl, arith, IsTrue}
 use Rattle.std.proofs.lemmas.Bool.Decides.{nat_tests}
 use Rattle.std.specs.Char.{is_ascii_uppercase}
 use Rattle.std.specs.List.{AllPass, list_all, prefix_len}
 use Rattle.std.proofs.lemmas.List.Sums.{list_all-from_AllPass}
-use Rattle.dsd_values.specs.Reading.{word_of, is_no_element_byte}
+use Rattle.dsd_values.specs.Reading.{is_no_element_byte}
 use Rattle.segments.specs.SegmentSpelling.{is_id, is_id_byte, is_element_character, is_inside, is_star}
 
 pub id_short : (id : List ℕ) → IsTrue (is_id id) → length id ≤ 3
@@ -61,8 +61,3 @@ none_there text e = grind (arith, nat_tests)
 
 pub no_place : (text : List ℕ) → AllPass is_element_character text → position is_no_element_byte text ≡ None
 no_place text e = none_there text (all_inside text (list_all-from_AllPass is_element_character text e))
-
-pub word_is : (text : List ℕ) → AllPass is_element_character text → length text ≤ 3 → word_of text ≡ Ok text
-word_is text e short =
-    let none = no_place text e in
-    grind (arith, nat_tests)

@@ -33,7 +33,14 @@ pub mod ControlNumbers
 pub mod Rows
 pub mod PartedTexts
 pub mod RowKinds
+pub mod KindsById
+pub mod Tells
 pub mod RowsSay
 pub mod RowsShape
 pub mod SealedRows
 pub mod SetRows
+pub mod Sounding
+pub mod Plain
+pub mod Making
+pub mod WrittenSets
+pub mod RightItems

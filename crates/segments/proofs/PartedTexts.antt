@@ -75,7 +75,7 @@ parted_joined [] h j = refl
 parted_joined (part ∷ more) h j = parted_some (join_with_byte 42 (part ∷ more)) (j.some (omega arith)) ∙ split_joined part more h
 
 -- a text without stars at its end is the joined elements without empty ones at their end
-text_is : (parts : List (List ℕ)) → All IsPart parts → without_end_stars (join_with_byte 42 parts) ≡ join_with_byte 42 (without_empty_end parts)
+pub text_is : (parts : List (List ℕ)) → All IsPart parts → without_end_stars (join_with_byte 42 parts) ≡ join_with_byte 42 (without_empty_end parts)
 text_is parts h = sym (trim_joined parts) ∙ (joined_trimmed parts h).kept
 
 pub parted_text : (parts : List (List ℕ)) → All IsPart parts → parted (without_end_stars (join_with_byte 42 parts)) ≡ without_empty_end parts

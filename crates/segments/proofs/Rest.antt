@@ -1,5 +1,5 @@
 -- What is left of a set, by what was said so far: the grammar from each phase on, and what of the value was said.
-use Rattle.std.proofs.Common.{◌≡◌, ℕ, true, List, [], ◌∷◌, ◌++◌, length}
+use Rattle.std.proofs.Common.{◌≡◌, ℕ, true, List, [], ◌∷◌, ◌++◌, length, Some}
 use Rattle.block_check.specs.Crc16.{crc_of}
 use Rattle.dsd_values.specs.declared.extra.Extra.{Extra}
 use Rattle.dsd_values.specs.declared.line.Line.{Line}
@@ -46,9 +46,9 @@ RestAt phases.Items form m t before segs = (inside : List Extra) × (lines : Lis
 RestAt phases.Extras form m t before segs = (beside : List Extra)
     × Left m t [] [] [] beside × Ending form beside t before segs
 RestAt phases.Signature form m t before segs = Read m t × (t.totals ≡ m.totals) × Signed form t before segs
-RestAt phases.Integrity form m t before segs = Read m t × (t.totals ≡ m.totals) × (t.signature ≡ m.signature) × Integrity form t before segs
-RestAt phases.Trailer form m t before segs = Read m t × (t.totals ≡ m.totals) × (t.signature ≡ m.signature) × (t.check ≡ m.integrity) × Trailer form t before segs
-RestAt phases.Done form m t before segs = Read m t × (t.totals ≡ m.totals) × (t.signature ≡ m.signature) × (t.check ≡ m.integrity) × (segs ≡ [])
+RestAt phases.Integrity form m t before segs = Read m t × (t.totals ≡ m.totals) × (Some t.signature ≡ m.signature) × Integrity form t before segs
+RestAt phases.Trailer form m t before segs = Read m t × (t.totals ≡ m.totals) × (Some t.signature ≡ m.signature) × (t.check ≡ m.integrity) × Trailer form t before segs
+RestAt phases.Done form m t before segs = Read m t × (t.totals ≡ m.totals) × (Some t.signature ≡ m.signature) × (t.check ≡ m.integrity) × (segs ≡ [])
 
 -- the running values are those of the segments before
 abbrev pub IsAt : List Seg → SoFar → Type 0

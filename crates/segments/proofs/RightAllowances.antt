@@ -3,6 +3,7 @@ use Rattle.std.proofs.Common.{◌≡◌, ℕ, Bool, true, false, not, ◌&&◌, 
 use Rattle.std.proofs.lemmas.Bool.{cases_Bool}
 use Rattle.dsd_values.proofs.Laws.{filled_word_of_spelled}
 use Rattle.dsd_values.specs.Answers.{UnlessMemory}
+use Rattle.dsd_values.specs.Methods.{counts}
 use Rattle.dsd_values.specs.Reading.{cents_of, cost_of, percent_of, quantity_of, filled_word_of}
 use Rattle.dsd_values.specs.declared.allowance.Allowance.{Allowance}
 use Rattle.dsd_values.specs.declared.fault.ValueFault.{ValueFault}
@@ -14,9 +15,11 @@ use Rattle.segments.specs.declared.set_fault.SetReason.TheVariants as reasons
 use Rattle.segments.specs.Reasons.{Says, allowance_reason, as_value, at_segment}
 use Rattle.segments.specs.Views.{Seg, element_of}
 use Rattle.segments.specs.Elements.{Reads, ◌or_else◌, some_of, optional}
-use Rattle.segments.specs.Allowances.{counts, has_size, HasSize, IsAllowance, is_left_out, lacks_quantity, lacks_size, missing, allowance_fault, allowance_in}
+use Rattle.segments.specs.Allowances.{has_size, HasSize, IsAllowance, is_left_out, lacks_quantity, lacks_size, missing, allowance_fault, allowance_in}
 use Rattle.dsd_values.specs.declared.limits.TheConstants.{MOST_ALLOWANCES}
-use Rattle.segments.proofs.Small.{both_none, none_then, at_ok, ok_at, ok_said, not_le, when_not}
+use Rattle.dsd_values.specs.declared.extra.Extra.TheVariants.{Allow}
+use Rattle.segments.specs.SoFar.{SoFar, with_beside}
+use Rattle.segments.proofs.Small.{both_none, none_then, at_ok, ok_at, ok_said, not_le, value_none, when_not}
 
 -- ---- which elements are there
 
@@ -209,3 +212,14 @@ allowance_refused (errors.Value element why) answer in_line inside others beside
     let because : allowance_reason in_line others seg ≡ Some (reasons.Value element why) = ap (λ (r : Option SetReason). r or_else as_value (allowance_fault in_line seg)) (when_not _ _ room_there) ∙ ap as_value h in
     let there : allowance_reason inside beside seg ≡ Some (reasons.Value element why) = ap (λ (b : Bool). allowance_reason b beside seg) (sym i) ∙ ap (λ (n : ℕ). allowance_reason in_line n seg) (sym o) ∙ because in
     subst (λ (a : _). Says a seg.start (allowance_reason inside beside seg) Q) (sym same) (refl, there)
+
+-- an allowance that was read and put is the one that the segment says
+pub allowance_kept : (allowance : Allowance) (in_line inside : Bool) (others beside : ℕ) (seg : Seg) (old new : SoFar) → Reads (Ok allowance) (allowance_fault in_line seg) (λ a. a ≡ allowance_in seg)
+    → in_line ≡ inside → others ≡ beside → others < MOST_ALLOWANCES → new ≡ with_beside (Allow allowance) old
+    → (allowance_reason inside beside seg ≡ None) × (new ≡ with_beside (Allow (allowance_in seg)) old)
+allowance_kept allowance in_line inside others beside seg old new read i o room same =
+    let room_there : nat_le MOST_ALLOWANCES others ≡ false = not_le MOST_ALLOWANCES others room in
+    let because : allowance_reason in_line others seg ≡ None = none_then _ _ (when_not _ _ room_there) (value_none _ read.0) in (
+      ap (λ (b : Bool). allowance_reason b beside seg) (sym i) ∙ ap (λ (n : ℕ). allowance_reason in_line n seg) (sym o) ∙ because,
+      same ∙ ap (λ (a : Allowance). with_beside (Allow a) old) read.1,
+    )

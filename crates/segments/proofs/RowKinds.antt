@@ -61,6 +61,16 @@ unfolding kind_of kind_with
 allowance_kind forms.Base first = refl
 allowance_kind forms.Answer first = refl
 
+pub line_note_kind : (form : Form) (first : List ℕ) → kind_with form (codes "G22") first ≡ kinds.LineNote
+unfolding kind_of kind_with
+line_note_kind forms.Base first = refl
+line_note_kind forms.Answer first = refl
+
+pub note_kind : (form : Form) (first : List ℕ) → kind_with form (codes "G23") first ≡ kinds.Note
+unfolding kind_of kind_with
+note_kind forms.Base first = refl
+note_kind forms.Answer first = refl
+
 pub totals_kind : (form : Form) (first : List ℕ) → kind_with form (codes "G84") first ≡ kinds.Totals
 unfolding kind_of kind_with
 totals_kind forms.Base first = refl

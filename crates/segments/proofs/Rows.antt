@@ -1,5 +1,5 @@
 -- Rows, one after another: what is asked of them, and what a writer of them answers.
-use Rattle.std.proofs.Common.{◌≡◌, ℕ, zero, suc, ◌+◌, ◌<◌, ◌≤◌, ◌==◌, true, false, IsTrue, inl, inr, nat_lt, List, [], ◌∷◌, ◌++◌, length, map, drop, get_or, Option, Some, None, Result, Ok, Err, refl, sym, ◌∙◌, ap, subst, arith, append-nil, append_assoc, length-append}
+use Rattle.std.proofs.Common.{◌≡◌, ◌⊎◌, ℕ, zero, suc, ◌+◌, ◌<◌, ◌≤◌, ◌==◌, true, false, IsTrue, inl, inr, nat_lt, List, [], ◌∷◌, ◌++◌, length, map, drop, get_or, Option, Some, None, Result, Ok, Err, refl, sym, ◌∙◌, ap, subst, arith, append-nil, append_assoc, length-append}
 use Rattle.std.specs.List.{All, flat_map}
 use Rattle.std.proofs.lemmas.Bool.{cases_Bool}
 use Rattle.std.proofs.lemmas.Bool.Decides.{nat_tests}
@@ -7,7 +7,7 @@ use Rattle.std.proofs.lemmas.List.{drop_all, drop_more, get_or-map, length-map}
 use Rattle.std.proofs.lemmas.List.Concat.{flat_map_single}
 use Rattle.std.proofs.lemmas.List.Elements.{All-cons, All-get_or, All-nil, All-head, All-tail}
 use Rattle.std.specs.Result.{IsErr, IsErrAnd}
-use Rattle.dsd_values.specs.Answers.{UnlessMemory}
+use Rattle.dsd_values.specs.Answers.{Gives, UnlessMemory}
 use Rattle.segments.specs.Elements.{◌or_else◌}
 use Rattle.segments.specs.RowsWritten.{SetSoFar, after_writing, first_long, unless_long, with_rows}
 use Rattle.segments.specs.SegmentSpelling.{IsPart, IsSegment, is_id}
@@ -126,6 +126,11 @@ IsLeft rows_of xs start place now = after_writing (flat_map rows_of (drop place 
 pub same_err : {X F : Type 0} (r : Result X F) (e : F) → IsErr r × IsErrAnd r (λ (f : F). f ≡ e) → r ≡ Err e
 same_err (Ok x) e h = let f : false ≡ true = h.0 in cc (f)
 same_err (Err f) e h = ap (λ u. Err u) h.1
+
+-- and one that is passed on by a call whose value is seen by a view
+pub passed_on : {X Y E : Type 0} (memory : E) (view : X → Y) (r : Result X E) (e : E) (wanted : Result Y E) → IsErr r × IsErrAnd r (λ (f : E). f ≡ e) → (e ≡ memory) ⊎ (wanted ≡ Err e) → Gives memory view r wanted
+passed_on memory view (Ok x) e wanted h given = let f : false ≡ true = h.0 in cc (f)
+passed_on memory view (Err f) e wanted h given = subst (λ u. (u ≡ memory) ⊎ (wanted ≡ Err u)) (sym h.1) given
 
 -- at an element of the list
 module _ {X : Type 0} (rows_of : X → List Row) (xs : List X) (start now : SetSoFar) (place : ℕ) (x : X) (is : x ≡ get_or xs place x) (inside : place < length xs) (left : IsLeft rows_of xs start place now) where

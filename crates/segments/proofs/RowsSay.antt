@@ -7,10 +7,11 @@ use Rattle.dsd_values.specs.Writing.{cost_text, number_text, percent_text}
 use Rattle.dsd_values.specs.declared.allowance.Allowance.{Allowance}
 use Rattle.dsd_values.specs.declared.fault.ValueFault.{ValueFault}
 use Rattle.dsd_values.specs.declared.line.Line.{Line}
-use Rattle.dsd_values.specs.declared.signature.Signature.{Signature}
+use Rattle.dsd_values.specs.declared.limits.TheConstants.{MARK_BYTES}
+use Rattle.dsd_values.specs.SignatureRecord.{SignatureRecord}
 use Rattle.dsd_values.proofs.Again.{IsReadAs, decimal_again, filled_word_again, number_again, word_again, word_between_again}
 use Rattle.segments.specs.Views.{Seg, element_of}
-use Rattle.segments.specs.Allowances.{IsAllowance}
+use Rattle.segments.specs.Allowances.{HasSize, IsAllowance}
 use Rattle.segments.specs.Elements.{optional, some_of, tail_from, without_end_stars}
 use Rattle.segments.specs.Grammar.{AreEmpty, IsItem, IsLoopId, IsNoLonger, IsSignature, IsStart, IsTotals}
 use Rattle.segments.specs.Kinds.{item_id, set_code}
@@ -70,7 +71,7 @@ none_some : {V : Type 0} (v : V) → (let none : Result (Option V) ValueFault = 
 none_some v e = cc
 
 module _ {V : Type 0} (reading : List ℕ → Result V ValueFault) (writing : V → List ℕ) (empty : (v : V) → reading [] ≡ Ok v → ⊥) where
-  optional_some : (text : List ℕ) (v : V) → reading text ≡ Ok v → optional reading text ≡ Ok (Some v)
+  pub optional_some : (text : List ℕ) (v : V) → reading text ≡ Ok v → optional reading text ≡ Ok (Some v)
   optional_some [] v e = absurd (empty v e)
   optional_some (byte ∷ more) v e = let some : optional reading (byte ∷ more) ≡ some_of (reading (byte ∷ more)) = grind arith in some ∙ ap some_of e
 
@@ -124,66 +125,109 @@ item_id_is : (form : Form) → IsTrue (is_id (item_id form))
 item_id_is forms.Base = refl
 item_id_is forms.Answer = refl
 
+-- what is written of each element of an item is read as its field
+pub record ItemElements (line : Line) : Type 0 where
+  pub dsd : IsReadAs dsd_of line.dsd (number_text line.dsd)
+  pub quantity : IsReadAs quantity_of line.quantity (number_text line.quantity)
+  pub unit : IsReadAs filled_word_of line.unit line.unit
+  pub upc : IsReadAs word_of line.upc line.upc
+  pub qualifier : IsReadAs word_of line.qualifier line.qualifier
+  pub id : IsReadAs word_of line.id line.id
+  pub case_code : IsReadAs word_of line.case_code line.case_code
+  pub cost : IsReadAs cost_of line.cost (cost_text line.cost)
+  pub pack : IsReadAs word_of line.pack line.pack
+  pub label : IsReadAs word_of line.label line.label
+  pub tail : IsTail 11 line.tail
+
+pub item_elements_again : (line : Line) (seg : Seg) → IsSegment seg.parts → IsItem line seg → ItemElements line
+item_elements_again line seg s is = record {
+  dsd = dsd_again line.dsd (element_of seg 1) is.dsd;
+  quantity = quantity_again line.quantity (element_of seg 2) is.quantity;
+  unit = filled_word_again (element_of seg 3) line.unit is.unit;
+  upc = word_again (element_of seg 4) line.upc is.upc;
+  qualifier = word_again (element_of seg 5) line.qualifier is.qualifier;
+  id = word_again (element_of seg 6) line.id is.id;
+  case_code = word_again (element_of seg 7) line.case_code is.case_code;
+  cost = cost_again line.cost (element_of seg 8) is.cost;
+  pack = word_again (element_of seg 9) line.pack is.pack;
+  label = word_again (element_of seg 10) line.label is.label;
+  tail = tail_is 11 seg line.tail (omega arith) s is.tail;
+}
+
+pub item_written : (form : Form) (line : Line) → ItemElements line → SaysAgain (IsItem line) (item_row form line)
+item_written form line are = record {
+  says = λ place. record {
+    dsd = reads_at dsd_of line.dsd place 1 (item_row form line) are.dsd;
+    quantity = reads_at quantity_of line.quantity place 2 (item_row form line) are.quantity;
+    unit = reads_at filled_word_of line.unit place 3 (item_row form line) are.unit;
+    upc = reads_at word_of line.upc place 4 (item_row form line) are.upc;
+    qualifier = reads_at word_of line.qualifier place 5 (item_row form line) are.qualifier;
+    id = reads_at word_of line.id place 6 (item_row form line) are.id;
+    case_code = reads_at word_of line.case_code place 7 (item_row form line) are.case_code;
+    cost = reads_at cost_of line.cost place 8 (item_row form line) are.cost;
+    pack = reads_at word_of line.pack place 9 (item_row form line) are.pack;
+    label = reads_at word_of line.label place 10 (item_row form line) are.label;
+    tail = tail_again place 11 (item_row form line) line.tail refl are.tail;
+  };
+  segment = row_segment (item_id form) (item_elements line) line.tail 11 (item_id_is form)
+      (are.dsd.element, (are.quantity.element, (are.unit.element, (are.upc.element, (are.qualifier.element, (are.id.element, (are.case_code.element, (are.cost.element, (are.pack.element, (are.label.element, tt)))))))))) (omega arith) are.tail;
+}
+
 pub item_again : (form : Form) (line : Line) (seg : Seg) → IsSegment seg.parts → IsItem line seg → SaysAgain (IsItem line) (item_row form line)
-item_again form line seg s is =
-    let dsd = dsd_again line.dsd (element_of seg 1) is.dsd in
-    let quantity = quantity_again line.quantity (element_of seg 2) is.quantity in
-    let unit = filled_word_again (element_of seg 3) line.unit is.unit in
-    let upc = word_again (element_of seg 4) line.upc is.upc in
-    let qualifier = word_again (element_of seg 5) line.qualifier is.qualifier in
-    let id = word_again (element_of seg 6) line.id is.id in
-    let case_code = word_again (element_of seg 7) line.case_code is.case_code in
-    let cost = cost_again line.cost (element_of seg 8) is.cost in
-    let pack = word_again (element_of seg 9) line.pack is.pack in
-    let label = word_again (element_of seg 10) line.label is.label in
-    let tail = tail_is 11 seg line.tail (omega arith) s is.tail in
-    record {
-      says = λ place. record {
-        dsd = reads_at dsd_of line.dsd place 1 (item_row form line) dsd;
-        quantity = reads_at quantity_of line.quantity place 2 (item_row form line) quantity;
-        unit = reads_at filled_word_of line.unit place 3 (item_row form line) unit;
-        upc = reads_at word_of line.upc place 4 (item_row form line) upc;
-        qualifier = reads_at word_of line.qualifier place 5 (item_row form line) qualifier;
-        id = reads_at word_of line.id place 6 (item_row form line) id;
-        case_code = reads_at word_of line.case_code place 7 (item_row form line) case_code;
-        cost = reads_at cost_of line.cost place 8 (item_row form line) cost;
-        pack = reads_at word_of line.pack place 9 (item_row form line) pack;
-        label = reads_at word_of line.label place 10 (item_row form line) label;
-        tail = tail_again place 11 (item_row form line) line.tail refl tail;
-      };
-      segment = row_segment (item_id form) (item_elements line) line.tail 11 (item_id_is form)
-          (dsd.element, (quantity.element, (unit.element, (upc.element, (qualifier.element, (id.element, (case_code.element, (cost.element, (pack.element, (label.element, tt)))))))))) (omega arith) tail;
-    }
+item_again form line seg s is = item_written form line (item_elements_again line seg s is)
+
+-- ---- allowances
+
+-- what is written of each element of an allowance is read as its field
+pub record AllowanceElements (in_line : Bool) (allowance : Allowance) : Type 0 where
+  pub code : IsReadAs filled_word_of allowance.code allowance.code
+  pub method : IsReadAs filled_word_of allowance.method allowance.method
+  pub number : IsReadAs word_of allowance.number allowance.number
+  pub exception : IsReadAs word_of allowance.exception allowance.exception
+  pub rate : IsReadAs (optional cost_of) allowance.rate (optional_text cost_text allowance.rate)
+  pub quantity : IsReadAs (optional quantity_of) allowance.quantity (optional_text number_text allowance.quantity)
+  pub unit : IsReadAs word_of allowance.unit allowance.unit
+  pub total : IsReadAs (optional cents_of) allowance.total (optional_text number_text allowance.total)
+  pub percent : IsReadAs (optional percent_of) allowance.percent (optional_text percent_text allowance.percent)
+  pub tail : IsTail 10 allowance.tail
+  pub size : HasSize in_line allowance
+
+allowance_elements_again : (in_line : Bool) (allowance : Allowance) (seg : Seg) → IsSegment seg.parts → IsAllowance in_line allowance seg → AllowanceElements in_line allowance
+allowance_elements_again in_line allowance seg s is = record {
+  code = filled_word_again (element_of seg 1) allowance.code is.code;
+  method = filled_word_again (element_of seg 2) allowance.method is.method;
+  number = word_again (element_of seg 3) allowance.number is.number;
+  exception = word_again (element_of seg 4) allowance.exception is.exception;
+  rate = optional_cost allowance.rate (element_of seg 5) is.rate;
+  quantity = optional_quantity allowance.quantity (element_of seg 6) is.quantity;
+  unit = word_again (element_of seg 7) allowance.unit is.unit;
+  total = optional_cents allowance.total (element_of seg 8) is.total;
+  percent = optional_percent allowance.percent (element_of seg 9) is.percent;
+  tail = tail_is 10 seg allowance.tail (omega arith) s is.tail;
+  size = is.size;
+}
+
+pub allowance_written : (in_line : Bool) (allowance : Allowance) → AllowanceElements in_line allowance → SaysAgain (IsAllowance in_line allowance) (allowance_row allowance)
+allowance_written in_line allowance are = record {
+  says = λ place. record {
+    code = reads_at filled_word_of allowance.code place 1 (allowance_row allowance) are.code;
+    method = reads_at filled_word_of allowance.method place 2 (allowance_row allowance) are.method;
+    number = reads_at word_of allowance.number place 3 (allowance_row allowance) are.number;
+    exception = reads_at word_of allowance.exception place 4 (allowance_row allowance) are.exception;
+    rate = reads_at (optional cost_of) allowance.rate place 5 (allowance_row allowance) are.rate;
+    quantity = reads_at (optional quantity_of) allowance.quantity place 6 (allowance_row allowance) are.quantity;
+    unit = reads_at word_of allowance.unit place 7 (allowance_row allowance) are.unit;
+    total = reads_at (optional cents_of) allowance.total place 8 (allowance_row allowance) are.total;
+    percent = reads_at (optional percent_of) allowance.percent place 9 (allowance_row allowance) are.percent;
+    tail = tail_again place 10 (allowance_row allowance) allowance.tail refl are.tail;
+    size = are.size;
+  };
+  segment = row_segment (codes "G72") (allowance_elements allowance) allowance.tail 10 refl
+      (are.code.element, (are.method.element, (are.number.element, (are.exception.element, (are.rate.element, (are.quantity.element, (are.unit.element, (are.total.element, (are.percent.element, tt))))))))) (omega arith) are.tail;
+}
 
 pub allowance_again : (in_line : Bool) (allowance : Allowance) (seg : Seg) → IsSegment seg.parts → IsAllowance in_line allowance seg → SaysAgain (IsAllowance in_line allowance) (allowance_row allowance)
-allowance_again in_line allowance seg s is =
-    let code = filled_word_again (element_of seg 1) allowance.code is.code in
-    let method = filled_word_again (element_of seg 2) allowance.method is.method in
-    let number = word_again (element_of seg 3) allowance.number is.number in
-    let exception = word_again (element_of seg 4) allowance.exception is.exception in
-    let rate = optional_cost allowance.rate (element_of seg 5) is.rate in
-    let quantity = optional_quantity allowance.quantity (element_of seg 6) is.quantity in
-    let unit = word_again (element_of seg 7) allowance.unit is.unit in
-    let total = optional_cents allowance.total (element_of seg 8) is.total in
-    let percent = optional_percent allowance.percent (element_of seg 9) is.percent in
-    let tail = tail_is 10 seg allowance.tail (omega arith) s is.tail in
-    record {
-      says = λ place. record {
-        code = reads_at filled_word_of allowance.code place 1 (allowance_row allowance) code;
-        method = reads_at filled_word_of allowance.method place 2 (allowance_row allowance) method;
-        number = reads_at word_of allowance.number place 3 (allowance_row allowance) number;
-        exception = reads_at word_of allowance.exception place 4 (allowance_row allowance) exception;
-        rate = reads_at (optional cost_of) allowance.rate place 5 (allowance_row allowance) rate;
-        quantity = reads_at (optional quantity_of) allowance.quantity place 6 (allowance_row allowance) quantity;
-        unit = reads_at word_of allowance.unit place 7 (allowance_row allowance) unit;
-        total = reads_at (optional cents_of) allowance.total place 8 (allowance_row allowance) total;
-        percent = reads_at (optional percent_of) allowance.percent place 9 (allowance_row allowance) percent;
-        tail = tail_again place 10 (allowance_row allowance) allowance.tail refl tail;
-        size = is.size;
-      };
-      segment = row_segment (codes "G72") (allowance_elements allowance) allowance.tail 10 refl
-          (code.element, (method.element, (number.element, (exception.element, (rate.element, (quantity.element, (unit.element, (total.element, (percent.element, tt))))))))) (omega arith) tail;
-    }
+allowance_again in_line allowance seg s is = allowance_written in_line allowance (allowance_elements_again in_line allowance seg s is)
 
 -- ---- round the items
 
@@ -202,13 +246,13 @@ totals_again totals seg is =
       segment = row_segment (codes "G84") (number_text totals.quantity ∷ number_text totals.amount ∷ optional_text number_text totals.deposit ∷ []) [] 4 refl (quantity.element, (amount.element, (deposit.element, tt))) (omega arith) (no_tail 4 (omega arith));
     }
 
-pub signature_again : (signature : Signature) (seg : Seg) → IsSignature signature seg → SaysAgain (IsSignature signature) (signature_row signature)
+pub signature_again : (signature : SignatureRecord) (seg : Seg) → IsSignature signature seg → SaysAgain (IsSignature signature) (signature_row signature)
 signature_again signature seg is =
-    let mark = word_between_again 1 12 (element_of seg 1) signature.mark is.mark in
+    let mark = word_between_again 1 MARK_BYTES (element_of seg 1) signature.mark is.mark in
     let name = word_again (element_of seg 2) signature.name is.name in
     record {
       says = λ place. record {
-        mark = reads_at (word_between 1 12) signature.mark place 1 (signature_row signature) mark;
+        mark = reads_at (word_between 1 MARK_BYTES) signature.mark place 1 (signature_row signature) mark;
         name = reads_at word_of signature.name place 2 (signature_row signature) name;
         ends = no_longer place 2 (signature_row signature) refl;
       };

@@ -1,4 +1,4 @@
--- What is written of a set has the shape of the set: segment after segment, whatever segments said its value.
+-- What is written of a set has the shape of the set, segment after segment, where each of its values can be said.
 use Rattle.std.proofs.Common.{◌≡◌, ℕ, ◌+◌, ◌^◌, ◌<◌, ◌≤◌, Bool, true, false, List, [], ◌∷◌, ◌++◌, length, map, codes, Ok, refl, sym, ◌∙◌, ap, subst, arith, append_assoc, append-nil, length-append}
 use Rattle.std.specs.List.{All, flat_map}
 use Rattle.std.proofs.lemmas.List.Elements.{All-cons, All-head, All-nil, All-tail}
@@ -8,24 +8,28 @@ use Rattle.dsd_values.specs.Writing.{number_text}
 use Rattle.dsd_values.specs.declared.extra.Extra.{Extra}
 use Rattle.dsd_values.specs.declared.extra.Extra.TheVariants.{Allow, Note}
 use Rattle.dsd_values.specs.declared.line.Line.{Line}
+use Rattle.dsd_values.specs.SignatureRecord.{SignatureRecord}
 use Rattle.dsd_values.proofs.Again.{check_again, plain_read_back}
 use Rattle.segments.specs.Views.{Seg}
 use Rattle.segments.specs.Extras.{IsExtra, is_note, kept_text}
-use Rattle.segments.specs.Grammar.{BehindHead, Body, Closing, Extras, Integrity, IsItem, IsLoopId, IsSignature, IsTotals, Items, Loop, LoopEnd, One, OneExtra, Record, References, Shape, Shared, Signed, bytes_of}
+use Rattle.segments.specs.Grammar.{BehindHead, Body, Closing, Extras, Integrity, IsItem, IsLoopId, IsSignature, IsTotals, Items, Loop, LoopEnd, One, OneExtra, OneReference, Record, References, Shape, Shared, Signed, bytes_of}
 use Rattle.segments.specs.Kinds.{kind_of}
 use Rattle.segments.specs.SegmentSpelling.{IsSegment}
 use Rattle.segments.specs.SegmentWriting.{line_of, segment_of, segments_of, text_of, without_empty_end}
 use Rattle.segments.specs.SetWriting.{Row, body_rows, control_text, extra_row, integrity_row, item_row, kept_row, line_rows, loop_end_row, loop_id, loop_rows, loop_start_row, sealing_rows, signature_row, totals_row, trailer_row}
+use Rattle.segments.specs.SoundLines.{IsSoundExtra}
 use Rattle.segments.specs.declared.kind.Form.{Form}
 use Rattle.segments.specs.declared.kind.Form.TheVariants as forms
 use Rattle.segments.specs.declared.kind.Kind.{Kind}
 use Rattle.segments.specs.declared.kind.Kind.TheVariants as kinds
+use Rattle.segments.specs.declared.stated.StatedTotals.{StatedTotals}
 use Rattle.segments.proofs.ControlNumbers.{control_filled}
 use Rattle.segments.proofs.EmptyEnds.{trim_element}
 use Rattle.segments.proofs.PartedTexts.{kept_again, kept_is, trimmed_segment}
 use Rattle.segments.proofs.RowKinds.{allowance_kind, integrity_kind, item_kind, kind_row, kind_same, loop_end_kind, loop_start_kind, signature_kind, totals_kind, trailer_kind}
 use Rattle.segments.proofs.Rows.{text_of-append}
 use Rattle.segments.proofs.RowsSay.{allowance_again, item_again, loop_id_again, no_longer, signature_again, totals_again}
+use Rattle.segments.proofs.Tells.{AreBeside, AreReferences, HasSignature, HasTotals, IsBehindHead, IsLong, IsReference, IsSaid}
 
 -- ---- the segments of rows
 
@@ -49,10 +53,6 @@ push_length : (rows : List Row) (row : Row) → length (text_of (rows ++ row ∷
 push_length rows row =
     ap length (text_of-append rows (row ∷ []) ∙ ap (λ (text : List ℕ). text_of rows ++ text) (append-nil (line_of row))) ∙ length-append (text_of rows) (line_of row)
 
--- a segment of any length
-abbrev pub IsLong : Seg → Type 0
-IsLong seg = IsSegment seg.parts
-
 -- a row of this kind, whose segment says so wherever it stands
 pub record RowSays (form : Form) (kind : Kind) (Says : List Seg → Seg → Type 0) (row : Row) : Type 0 where
   pub kind_is : (place : ℕ) → kind_of form (segment_of place row) ≡ kind
@@ -65,6 +65,18 @@ pub record IsSealable (opened : List Row) (control : ℕ) : Type 0 where
   pub count : length opened + 2 < 10 ^ 15
   pub small : control ≤ 999_999_999
 
+-- the same, sealed with this control number and this check
+abbrev pub sealed_so : List ℕ → ℕ → Shared → Shared
+sealed_so control check t = record {
+  control = control;
+  references = t.references;
+  lines = t.lines;
+  extras = t.extras;
+  totals = t.totals;
+  signature = t.signature;
+  check = check;
+}
+
 module _ (opened : List Row) (control : ℕ) where
   abbrev sealing : List Row
   sealing = sealing_rows (text_of opened) (length opened) control
@@ -74,9 +86,9 @@ module _ (opened : List Row) (control : ℕ) where
     pub shape : IsSealable opened control → target (segments_of 0 done) (segments_of (length (text_of done)) (left ++ sealing_rows (text_of opened) (length opened) control))
     pub segments : All IsSegment left
 
-  -- whatever segments have the one shape, these rows have the other
-  abbrev pub Reshapes : Shape → Shape → List Row → Type 0
-  Reshapes source target left = (before segs : List Seg) (done : List Row) → source before segs → All IsLong segs → opened ≡ done ++ left → Reshaped target done left
+  -- behind whatever rows are done, the ones that are left have the shape
+  abbrev pub Shaped : Shape → List Row → Type 0
+  Shaped target left = (done : List Row) → opened ≡ done ++ left → Reshaped target done left
 
   -- one row more is done
   one_done : (target : Shape) (row : Row) (left done : List Row) → IsSealable opened control → Reshaped target (done ++ row ∷ []) left
@@ -90,13 +102,9 @@ module _ (opened : List Row) (control : ℕ) where
   still : (done left : List Row) (row : Row) → opened ≡ done ++ row ∷ left → opened ≡ (done ++ row ∷ []) ++ left
   still done left row e = e ∙ sym (append_assoc done (row ∷ []) left)
 
-  pub one_row : (form : Form) (kind : Kind) (Says Again : List Seg → Seg → Type 0) (source target : Shape) (row : Row) (left : List Row)
-      → ((before : List Seg) (seg : Seg) → IsLong seg → kind_of form seg ≡ kind → Says before seg → RowSays form kind Again row)
-      → Reshapes source target left → Reshapes (One form kind Says source) (One form kind Again target) (row ∷ left)
-  one_row form kind Says Again source target row left again rest before [] done s all e = absurd s
-  one_row form kind Says Again source target row left again rest before (seg ∷ segs) done (k, says, s) all e =
-      let r = again before seg (All-head IsLong seg segs all) k says in
-      let next = rest (before ++ seg ∷ []) segs (done ++ row ∷ []) s (All-tail IsLong seg segs all) (still done left row e) in
+  pub row_shaped : (form : Form) (kind : Kind) (Says : List Seg → Seg → Type 0) (target : Shape) (row : Row) (left : List Row) → RowSays form kind Says row → Shaped target left → Shaped (One form kind Says target) (row ∷ left)
+  row_shaped form kind Says target row left r rest done e =
+      let next = rest (done ++ row ∷ []) (still done left row e) in
       record {
         shape = λ sealable. (r.kind_is (length (text_of done)), r.says (segments_of 0 done) (length (text_of done)), one_done target row left done sealable next);
         segments = All-cons IsSegment row left r.segment next.segments;
@@ -104,7 +112,7 @@ module _ (opened : List Row) (control : ℕ) where
 
   -- ---- kept segments and extras
 
-  pub kept_kind : (form : Form) (seg : Seg) (text : List ℕ) → IsLong seg → kept_text seg ≡ text → (place : ℕ) → kind_of form (segment_of place (kept_row text)) ≡ kind_of form seg
+  kept_kind : (form : Form) (seg : Seg) (text : List ℕ) → IsLong seg → kept_text seg ≡ text → (place : ℕ) → kind_of form (segment_of place (kept_row text)) ≡ kind_of form seg
   kept_kind form seg text s e place =
       let row : kept_row text ≡ without_empty_end seg.parts = ap kept_row (sym e) ∙ kept_is seg s in
       ap (λ (l : Row). kind_of form (segment_of place l)) row
@@ -118,16 +126,16 @@ module _ (opened : List Row) (control : ℕ) where
   kept_segment : (seg : Seg) (text : List ℕ) → IsLong seg → kept_text seg ≡ text → IsSegment (kept_row text)
   kept_segment seg text s e = subst (λ (t : List ℕ). IsSegment (kept_row t)) e (subst IsSegment (sym (kept_is seg s)) (trimmed_segment seg.parts s))
 
-  pub kept_row_says : (form : Form) (kind : Kind) (seg : Seg) (text : List ℕ) → IsLong seg → kind_of form seg ≡ kind → kept_text seg ≡ text → RowSays form kind (λ _ seg. kept_text seg ≡ text) (kept_row text)
-  kept_row_says form kind seg text s k e = record {
-    kind_is = λ place. kept_kind form seg text s e place ∙ k;
-    says = λ before place. kept_says seg text s e place;
-    segment = kept_segment seg text s e;
+  reference_says : (form : Form) (text : List ℕ) → IsReference form text → RowSays form kinds.Reference (λ _ seg. kept_text seg ≡ text) (kept_row text)
+  reference_says form text is = record {
+    kind_is = λ place. kept_kind form is.saying text is.segment is.kept place ∙ is.kind;
+    says = λ before place. kept_says is.saying text is.segment is.kept place;
+    segment = kept_segment is.saying text is.segment is.kept;
   }
 
-  pub record ExtraSays (in_line : Bool) (form : Form) (extra : Extra) : Type 0 where
-    pub says : (place : ℕ) → IsExtra in_line extra (kind_of form (segment_of place (extra_row extra))) (segment_of place (extra_row extra))
-    pub segment : IsSegment (extra_row extra)
+  record ExtraSays (in_line : Bool) (form : Form) (extra : Extra) : Type 0 where
+    says : (place : ℕ) → IsExtra in_line extra (kind_of form (segment_of place (extra_row extra))) (segment_of place (extra_row extra))
+    segment : IsSegment (extra_row extra)
 
   extra_again : (in_line : Bool) (form : Form) (extra : Extra) (seg : Seg) → IsLong seg → IsExtra in_line extra (kind_of form seg) seg → ExtraSays in_line form extra
   extra_again in_line form (Allow allowance) seg s (k, is) =
@@ -141,83 +149,78 @@ module _ (opened : List Row) (control : ℕ) where
     segment = kept_segment seg text s e;
   }
 
-  one_extra : (in_line : Bool) (form : Form) (extra : Extra) (source target : Shape) (left : List Row) → Reshapes source target left → Reshapes (OneExtra in_line form extra source) (OneExtra in_line form extra target) (extra_row extra ∷ left)
-  one_extra in_line form extra source target left rest before [] done s all e = absurd s
-  one_extra in_line form extra source target left rest before (seg ∷ segs) done (is, s) all e =
-      let r = extra_again in_line form extra seg (All-head IsLong seg segs all) is in
-      let next = rest (before ++ seg ∷ []) segs (done ++ extra_row extra ∷ []) s (All-tail IsLong seg segs all) (still done left (extra_row extra) e) in
+  extra_shaped : (in_line : Bool) (form : Form) (extra : Extra) (target : Shape) (left : List Row) → IsSoundExtra in_line extra → Shaped target left → Shaped (OneExtra in_line form extra target) (extra_row extra ∷ left)
+  extra_shaped in_line form extra target left is rest done e =
+      let r = extra_again in_line form extra is.saying is.segment (is.says form) in
+      let next = rest (done ++ extra_row extra ∷ []) (still done left (extra_row extra) e) in
       record {
         shape = λ sealable. (r.says (length (text_of done)), one_done target (extra_row extra) left done sealable next);
         segments = All-cons IsSegment (extra_row extra) left r.segment next.segments;
       }
 
-  pub extras_reshaped : (in_line : Bool) (form : Form) (extras : List Extra) (source target : Shape) (left : List Row) → Reshapes source target left
-      → Reshapes (Extras in_line form extras source) (Extras in_line form extras target) (map extra_row extras ++ left)
-  extras_reshaped in_line form [] source target left rest = rest
-  extras_reshaped in_line form (extra ∷ extras) source target left rest =
-      one_extra in_line form extra (Extras in_line form extras source) (Extras in_line form extras target) (map extra_row extras ++ left) (extras_reshaped in_line form extras source target left rest)
+  extras_shaped : (in_line : Bool) (form : Form) (extras : List Extra) (target : Shape) (left : List Row) → All (IsSoundExtra in_line) extras → Shaped target left → Shaped (Extras in_line form extras target) (map extra_row extras ++ left)
+  extras_shaped in_line form [] target left are rest = rest
+  extras_shaped in_line form (extra ∷ extras) target left are rest =
+      extra_shaped in_line form extra (Extras in_line form extras target) (map extra_row extras ++ left) (All-head (IsSoundExtra in_line) extra extras are)
+      (extras_shaped in_line form extras target left (All-tail (IsSoundExtra in_line) extra extras are) rest)
 
   -- ---- items
 
-  item_says : (form : Form) (line : Line) (before : List Seg) (seg : Seg) → IsLong seg → kind_of form seg ≡ kinds.Item → IsItem line seg → RowSays form kinds.Item (λ _ seg. IsItem line seg) (item_row form line)
-  item_says form line before seg s k is =
-      let again = item_again form line seg s is in
+  item_says : (form : Form) (line : Line) → IsSaid line → RowSays form kinds.Item (λ _ seg. IsItem line seg) (item_row form line)
+  item_says form line is =
+      let again = item_again form line is.item is.segment is.says in
       record {
         kind_is = λ place. kind_row form place (item_row form line) ∙ item_kind form (number_text line.dsd);
         says = λ before place. again.says place;
         segment = again.segment;
       }
 
-  items_reshaped : (form : Form) (lines : List Line) (source target : Shape) (left : List Row) → Reshapes source target left → Reshapes (Items form lines source) (Items form lines target) (flat_map (line_rows form) lines ++ left)
-  items_reshaped form [] source target left rest = rest
-  items_reshaped form (line ∷ lines) source target left rest =
+  items_shaped : (form : Form) (lines : List Line) (target : Shape) (left : List Row) → All IsSaid lines → Shaped target left → Shaped (Items form lines target) (flat_map (line_rows form) lines ++ left)
+  items_shaped form [] target left are rest = rest
+  items_shaped form (line ∷ lines) target left are rest =
       let later : List Row = flat_map (line_rows form) lines in
-      subst (λ (rows : List Row). Reshapes (Items form (line ∷ lines) source) (Items form (line ∷ lines) target) (item_row form line ∷ rows)) (sym (append_assoc (map extra_row line.extras) later left))
-      (one_row form kinds.Item (λ _ seg. IsItem line seg) (λ _ seg. IsItem line seg) (Extras true form line.extras (Items form lines source)) (Extras true form line.extras (Items form lines target))
-      (item_row form line) (map extra_row line.extras ++ (later ++ left)) (item_says form line)
-      (extras_reshaped true form line.extras (Items form lines source) (Items form lines target) (later ++ left) (items_reshaped form lines source target left rest)))
+      let is = All-head IsSaid line lines are in
+      subst (λ (rows : List Row). Shaped (Items form (line ∷ lines) target) (item_row form line ∷ rows)) (sym (append_assoc (map extra_row line.extras) later left))
+      (row_shaped form kinds.Item (λ _ seg. IsItem line seg) (Extras true form line.extras (Items form lines target)) (item_row form line) (map extra_row line.extras ++ (later ++ left)) (item_says form line is)
+      (extras_shaped true form line.extras (Items form lines target) (later ++ left) is.each (items_shaped form lines target left (All-tail IsSaid line lines are) rest)))
 
-  loop_start_says : (form : Form) (id : List ℕ) (before : List Seg) (seg : Seg) → IsLong seg → kind_of form seg ≡ kinds.LoopStart → IsLoopId id seg → RowSays form kinds.LoopStart (λ _ seg. IsLoopId loop_id seg) loop_start_row
-  loop_start_says form id before seg s k is =
+  loop_start_says : (form : Form) → RowSays form kinds.LoopStart (λ _ seg. IsLoopId loop_id seg) loop_start_row
+  loop_start_says form =
       let again = loop_id_again (codes "LS") refl in
       record { kind_is = λ place. kind_row form place loop_start_row ∙ loop_start_kind form loop_id; says = λ before place. again.says place; segment = again.segment }
 
-  loop_end_says : (form : Form) (id : List ℕ) (before : List Seg) (seg : Seg) → IsLong seg → kind_of form seg ≡ kinds.LoopEnd → IsLoopId id seg → RowSays form kinds.LoopEnd (λ _ seg. IsLoopId loop_id seg) loop_end_row
-  loop_end_says form id before seg s k is =
+  loop_end_says : (form : Form) → RowSays form kinds.LoopEnd (λ _ seg. IsLoopId loop_id seg) loop_end_row
+  loop_end_says form =
       let again = loop_id_again (codes "LE") refl in
       record { kind_is = λ place. kind_row form place loop_end_row ∙ loop_end_kind form loop_id; says = λ before place. again.says place; segment = again.segment }
 
-  loop_reshaped : (form : Form) (lines : List Line) (source target : Shape) (left : List Row) → Reshapes source target left → Reshapes (Loop form lines source) (Loop form lines target) (loop_rows form lines ++ left)
-  loop_reshaped form [] source target left rest = rest
-  loop_reshaped form (line ∷ lines) source target left rest = λ before segs done s all e.
-      let id : List ℕ = s.0 in
+  -- a loop with the id that is written
+  abbrev Looped : Form → List Line → Shape → Shape
+  Looped form lines target = One form kinds.LoopStart (λ _ seg. IsLoopId loop_id seg) (Items form lines (LoopEnd form loop_id target))
+
+  looped : (form : Form) (lines : List Line) (target : Shape) (left : List Row) → All IsSaid lines → Shaped target left → Shaped (Looped form lines target) (loop_start_row ∷ (flat_map (line_rows form) lines ++ loop_end_row ∷ left))
+  looped form lines target left are rest =
+      row_shaped form kinds.LoopStart (λ _ seg. IsLoopId loop_id seg) (Items form lines (LoopEnd form loop_id target)) loop_start_row (flat_map (line_rows form) lines ++ loop_end_row ∷ left) (loop_start_says form)
+      (items_shaped form lines (LoopEnd form loop_id target) (loop_end_row ∷ left) are
+      (row_shaped form kinds.LoopEnd (λ _ seg. IsLoopId loop_id seg) target loop_end_row left (loop_end_says form) rest))
+
+  loop_shaped : (form : Form) (lines : List Line) (target : Shape) (left : List Row) → All IsSaid lines → Shaped target left → Shaped (Loop form lines target) (loop_rows form lines ++ left)
+  loop_shaped form [] target left are rest = rest
+  loop_shaped form (line ∷ lines) target left are rest = λ done e.
       let items : List Row = flat_map (line_rows form) (line ∷ lines) in
-      let group : (items ++ loop_end_row ∷ []) ++ left ≡ items ++ loop_end_row ∷ left = append_assoc items (loop_end_row ∷ []) left in
-      let end = one_row form kinds.LoopEnd (λ _ seg. IsLoopId id seg) (λ _ seg. IsLoopId loop_id seg) source target loop_end_row left (loop_end_says form id) rest in
-      let inner = items_reshaped form (line ∷ lines) (LoopEnd form id source) (LoopEnd form loop_id target) (loop_end_row ∷ left) end in
-      let whole = one_row form kinds.LoopStart (λ _ seg. IsLoopId id seg) (λ _ seg. IsLoopId loop_id seg) (Items form (line ∷ lines) (LoopEnd form id source)) (Items form (line ∷ lines) (LoopEnd form loop_id target))
-      loop_start_row (items ++ loop_end_row ∷ left) (loop_start_says form id) inner in
-      let r = subst (λ (rows : List Row). Reshapes (One form kinds.LoopStart (λ _ seg. IsLoopId id seg) (Items form (line ∷ lines) (LoopEnd form id source))) (One form kinds.LoopStart (λ _ seg. IsLoopId loop_id seg) (Items form (line ∷ lines) (LoopEnd form loop_id target))) (loop_start_row ∷ rows)) (sym group) whole before segs done s.1 all e in
+      let r = subst (λ (rows : List Row). Shaped (Looped form (line ∷ lines) target) (loop_start_row ∷ rows)) (sym (append_assoc items (loop_end_row ∷ []) left)) (looped form (line ∷ lines) target left are rest) done e in
       record { shape = λ sealable. (loop_id, r.shape sealable); segments = r.segments }
 
-  record_reshaped : (form : Form) (extras : List Extra) (source target : Shape) (left : List Row) → Reshapes source target left → Reshapes (Record form extras source) (Record form extras target) (map extra_row extras ++ left)
-  record_reshaped forms.Base extras source target left rest = extras_reshaped false forms.Base extras source target left rest
-  record_reshaped forms.Answer [] source target left rest = rest
-  record_reshaped forms.Answer (extra ∷ extras) source target left rest = λ before segs done s all e. absurd s
+  record_shaped : (form : Form) (extras : List Extra) (target : Shape) (left : List Row) → AreBeside form extras → Shaped target left → Shaped (Record form extras target) (map extra_row extras ++ left)
+  record_shaped forms.Base extras target left are rest = extras_shaped false forms.Base extras target left are rest
+  record_shaped forms.Answer [] target left are rest = rest
+  record_shaped forms.Answer (extra ∷ extras) target left are rest = absurd are
 
   -- ---- the closing
 
-  -- the same, sealed anew
+  -- the same, sealed by these rows
   abbrev pub resealed : Shared → Shared
-  resealed t = record {
-    control = control_text control;
-    references = t.references;
-    lines = t.lines;
-    extras = t.extras;
-    totals = t.totals;
-    signature = t.signature;
-    check = crc_of (text_of opened);
-  }
+  resealed t = sealed_so (control_text control) (crc_of (text_of opened)) t
 
   sealed_shape : (form : Form) (t : Shared) (done : List Row) → IsSealable opened control → opened ≡ done → Integrity form (resealed t) (segments_of 0 done) (segments_of (length (text_of done)) sealing)
   sealed_shape form t done s e =
@@ -236,38 +239,42 @@ module _ (opened : List Row) (control : ℕ) where
         ),
       )
 
-  integrity_reshaped : (form : Form) (t : Shared) → Reshapes (Integrity form t) (Integrity form (resealed t)) []
-  integrity_reshaped form t before segs done s all e = record {
+  integrity_shaped : (form : Form) (t : Shared) → Shaped (Integrity form (resealed t)) []
+  integrity_shaped form t done e = record {
     shape = λ sealable. sealed_shape form t done sealable (e ∙ append-nil done);
     segments = All-nil IsSegment;
   }
 
-  closing_reshaped : (form : Form) (t : Shared) → Reshapes (Closing form t) (Closing form (resealed t)) (totals_row t.totals ∷ signature_row t.signature ∷ [])
-  closing_reshaped form t =
-      one_row form kinds.Totals (λ _ seg. IsTotals t.totals seg) (λ _ seg. IsTotals t.totals seg) (Signed form t) (Signed form (resealed t)) (totals_row t.totals) (signature_row t.signature ∷ [])
-      (λ before seg s k is. let again = totals_again t.totals seg is in record { kind_is = λ place. kind_row form place (totals_row t.totals) ∙ totals_kind form _; says = λ before place. again.says place; segment = again.segment })
-      (one_row form kinds.Signature (λ _ seg. IsSignature t.signature seg) (λ _ seg. IsSignature t.signature seg) (Integrity form t) (Integrity form (resealed t)) (signature_row t.signature) []
-      (λ before seg s k is. let again = signature_again t.signature seg is in record { kind_is = λ place. kind_row form place (signature_row t.signature) ∙ signature_kind form _; says = λ before place. again.says place; segment = again.segment })
-      (integrity_reshaped form t))
+  totals_say : (form : Form) (totals : StatedTotals) → HasTotals totals → RowSays form kinds.Totals (λ _ seg. IsTotals totals seg) (totals_row totals)
+  totals_say form totals has =
+      let again = totals_again totals has.saying has.says in
+      record { kind_is = λ place. kind_row form place (totals_row totals) ∙ totals_kind form _; says = λ before place. again.says place; segment = again.segment }
 
-  body_reshaped : (form : Form) (lines : List Line) (extras : List Extra) (t : Shared) → Reshapes (Body form lines extras t) (Body form lines extras (resealed t)) (body_rows form lines extras t.totals t.signature)
-  body_reshaped form lines extras t =
-      let end : List Row = totals_row t.totals ∷ signature_row t.signature ∷ [] in
-      loop_reshaped form lines (Record form extras (Closing form t)) (Record form extras (Closing form (resealed t))) (map extra_row extras ++ end)
-      (record_reshaped form extras (Closing form t) (Closing form (resealed t)) end (closing_reshaped form t))
+  signature_says : (form : Form) (signature : SignatureRecord) → HasSignature signature → RowSays form kinds.Signature (λ _ seg. IsSignature signature seg) (signature_row signature)
+  signature_says form signature has =
+      let again = signature_again signature has.saying has.says in
+      record { kind_is = λ place. kind_row form place (signature_row signature) ∙ signature_kind form _; says = λ before place. again.says place; segment = again.segment }
 
-  references_reshaped : (form : Form) (texts : List (List ℕ)) (source target : Shape) (left : List Row) → Reshapes source target left → Reshapes (References form texts source) (References form texts target) (map kept_row texts ++ left)
-  references_reshaped form [] source target left rest = rest
-  references_reshaped forms.Base (text ∷ texts) source target left rest =
-      one_row forms.Base kinds.Reference (λ _ seg. kept_text seg ≡ text) (λ _ seg. kept_text seg ≡ text) (References forms.Base texts source) (References forms.Base texts target) (kept_row text) (map kept_row texts ++ left)
-      (λ before seg s k is. kept_row_says forms.Base kinds.Reference seg text s k is) (references_reshaped forms.Base texts source target left rest)
-  references_reshaped forms.Answer (text ∷ []) source target left rest =
-      one_row forms.Answer kinds.Reference (λ _ seg. kept_text seg ≡ text) (λ _ seg. kept_text seg ≡ text) source target (kept_row text) left
-      (λ before seg s k is. kept_row_says forms.Answer kinds.Reference seg text s k is) rest
-  references_reshaped forms.Answer (text ∷ next ∷ texts) source target left rest = λ before segs done s all e. absurd s
+  closing_shaped : (form : Form) (t : Shared) → HasTotals t.totals → HasSignature t.signature → Shaped (Closing form (resealed t)) (totals_row t.totals ∷ signature_row t.signature ∷ [])
+  closing_shaped form t totals signature =
+      row_shaped form kinds.Totals (λ _ seg. IsTotals t.totals seg) (Signed form (resealed t)) (totals_row t.totals) (signature_row t.signature ∷ []) (totals_say form t.totals totals)
+      (row_shaped form kinds.Signature (λ _ seg. IsSignature t.signature seg) (Integrity form (resealed t)) (signature_row t.signature) [] (signature_says form t.signature signature) (integrity_shaped form t))
+
+  reference_shaped : (form : Form) (text : List ℕ) (target : Shape) (left : List Row) → IsReference form text → Shaped target left → Shaped (OneReference form text target) (kept_row text ∷ left)
+  reference_shaped form text target left is rest = row_shaped form kinds.Reference (λ _ seg. kept_text seg ≡ text) target (kept_row text) left (reference_says form text is) rest
+
+  references_shaped : (form : Form) (texts : List (List ℕ)) (target : Shape) (left : List Row) → AreReferences form texts → Shaped target left → Shaped (References form texts target) (map kept_row texts ++ left)
+  references_shaped form [] target left are rest = rest
+  references_shaped forms.Base (text ∷ texts) target left are rest =
+      reference_shaped forms.Base text (References forms.Base texts target) (map kept_row texts ++ left) are.0 (references_shaped forms.Base texts target left are.1 rest)
+  references_shaped forms.Answer (text ∷ []) target left are rest = reference_shaped forms.Answer text target left are rest
+  references_shaped forms.Answer (text ∷ next ∷ texts) target left are rest = absurd are
 
   -- what stands behind the head
-  pub behind_head_reshaped : (form : Form) (texts : List (List ℕ)) (lines : List Line) (extras : List Extra) (t : Shared)
-      → Reshapes (BehindHead form texts lines extras t) (BehindHead form texts lines extras (resealed t)) (map kept_row texts ++ body_rows form lines extras t.totals t.signature)
-  behind_head_reshaped form texts lines extras t =
-      references_reshaped form texts (Body form lines extras t) (Body form lines extras (resealed t)) (body_rows form lines extras t.totals t.signature) (body_reshaped form lines extras t)
+  pub behind_head_shaped : (form : Form) (texts : List (List ℕ)) (lines : List Line) (extras : List Extra) (t : Shared) → IsBehindHead form texts lines extras t.totals t.signature
+      → Shaped (BehindHead form texts lines extras (resealed t)) (map kept_row texts ++ body_rows form lines extras t.totals t.signature)
+  behind_head_shaped form texts lines extras t is =
+      let end : List Row = totals_row t.totals ∷ signature_row t.signature ∷ [] in
+      references_shaped form texts (Body form lines extras (resealed t)) (body_rows form lines extras t.totals t.signature) is.references
+      (loop_shaped form lines (Record form extras (Closing form (resealed t))) (map extra_row extras ++ end) is.lines_said
+      (record_shaped form extras (Closing form (resealed t)) end is.beside (closing_shaped form t is.totals_said is.signature_said)))

@@ -10,6 +10,9 @@ use Rattle.segments.specs.Elements.{ElementFault, ◌or_else◌, at_element, sai
 use Rattle.segments.specs.Reasons.{when, as_value}
 use Rattle.segments.specs.Grammar.{AreEmpty}
 
+pub same_some : {A : Type 0} (a b : A) → Some a ≡ Some b → a ≡ b
+same_some a b e = cc
+
 pub both_none : {A : Type 0} (a b : Option A) → (a or_else b) ≡ None → (a ≡ None) × (b ≡ None)
 both_none (Some r) b e = cc
 both_none None b e = (refl, e)

@@ -72,10 +72,6 @@ pub left_after-fault : (old : Left) (fault : SegmentFault) → next_of old ≡ E
 unfolding left_after
 left_after-fault old fault e = ap (left_by old) e
 
-pub left_after-end : (old : Left) → next_of old ≡ Ok None → left_after old ≡ old
-unfolding left_after
-left_after-end old e = ap (left_by old) e
-
 -- ---- the end
 
 pub next_of-end : (old : Left) → old.rest ≡ [] → next_of old ≡ Ok None

@@ -31,9 +31,6 @@ both false b e = cc
 id_character : (byte : ℕ) → is_id_byte byte ≡ true → is_element_character byte ≡ true
 id_character byte h = grind (arith, nat_tests)
 
-first_character : (byte : ℕ) (rest : Bool) → (is_id_byte byte && rest) ≡ true → is_element_character byte ≡ true
-first_character byte rest h = id_character byte (both (is_id_byte byte) rest h).0
-
 id_characters : (text : List ℕ) → AllPass is_id_byte text → IsPart text
 id_characters text h = λ k d under. id_character (get_or text k d) (h k d under)
 
@@ -177,7 +174,7 @@ segment_spelled place parts line =
       short = omega arith;
     }
 
-segment_written : (place : ℕ) (parts : List (List ℕ)) → IsLine parts → IsWritten (segment_of place parts)
+pub segment_written : (place : ℕ) (parts : List (List ℕ)) → IsLine parts → IsWritten (segment_of place parts)
 segment_written place parts line =
     let twice = trim_twice parts in
     record { trimmed = twice; spelled = refl; short = line.short }
@@ -199,6 +196,12 @@ gains_line text parts line = λ segments h.
     let here : length text ≡ 0 + length text = omega arith in
     spelled_push 0 segments text (segment_of (length text) parts) h (segment_spelled (length text) parts line) here
 
+pub lines_written : (place : ℕ) (rows : List (List (List ℕ))) → All IsLine rows → All IsWritten (segments_of place rows)
+lines_written place [] all = All-nil IsWritten
+lines_written place (row ∷ rows) all =
+    All-cons IsWritten (segment_of place row) (segments_of (place + length (line_of row)) rows) (segment_written place row (All-head IsLine row rows all))
+    (lines_written (place + length (line_of row)) rows (All-tail IsLine row rows all))
+
 written_more : (text : List ℕ) (parts : List (List ℕ)) → IsWrittenText text → IsLine parts → IsWrittenText (text ++ line_of parts)
 written_more text parts w line = record {
   segments = w.segments ++ segment_of (length text) parts ∷ [];
@@ -212,17 +215,6 @@ lines_spelled place (parts ∷ more) h =
     (segment_spelled place parts (All-head IsLine parts more h), refl, (text_of more, refl, lines_spelled (place + length (line_of parts)) more (All-tail IsLine parts more h)))
 
 -- ---- the writer, call by call
-
-pub keeps_new : (text : List ℕ) → text ≡ [] → KeepsWriter text 0 0
-keeps_new text e = subst (λ (l : List ℕ). KeepsWriter l 0 0) (sym e) (record {
-  inside = omega arith;
-  ordered = omega arith;
-  written = record { segments = []; spelled = refl; written = All-nil IsWritten };
-  begun = refl;
-})
-
-pub sees_new : (text : List ℕ) → text ≡ [] → written_in text 0 ≡ record { text = []; begun = None }
-sees_new text e = ap (λ (l : List ℕ). written_in l 0) e
 
 abbrev seen : List ℕ → Option (List (List ℕ)) → Written
 seen text begun = record { text = text; begun = begun }

@@ -1,23 +1,12 @@
--- Allowances and charges: what a G72 says, and which of its elements is refused. Places, kinds, widths and methods are this
+-- Allowances and charges: what a G72 says, and which of its elements is refused. Places, kinds and widths are this
 -- project's profile.
-use Rattle.std.specs.Prelude.{◌≡◌, ℕ, Bool, true, not, ◌&&◌, ◌||◌, ◌==◌, IsTrue, List, [], length, codes, Option, Some, None, is_some, Ok, if◌then◌else◌}
-use Rattle.std.specs.Str.{bytes_eq}
+use Rattle.std.specs.Prelude.{◌≡◌, ℕ, Bool, true, not, ◌&&◌, ◌||◌, ◌==◌, IsTrue, List, [], length, Option, Some, None, is_some, Ok, if◌then◌else◌}
+use Rattle.dsd_values.specs.Methods.{counts}
 use Rattle.dsd_values.specs.Reading.{cents_of, cost_of, percent_of, quantity_of, word_of, filled_word_of}
 use Rattle.dsd_values.specs.declared.allowance.Allowance.{Allowance}
 use Rattle.dsd_values.specs.declared.fault.ValueFault.TheVariants as faults
 use Rattle.segments.specs.Views.{Seg, element_of}
 use Rattle.segments.specs.Elements.{ElementFault, ◌or_else◌, at_element, said, optional, tail_from}
-
--- the methods that lower and that raise an amount; no other changes a price
-abbrev pub lowers : List ℕ → Bool
-lowers method = bytes_eq method (codes "02")
-
-abbrev pub raises : List ℕ → Bool
-raises method = bytes_eq method (codes "06")
-
--- the method changes a price
-abbrev pub counts : List ℕ → Bool
-counts method = lowers method || raises method
 
 -- ---- what a right one says
 

@@ -6,8 +6,8 @@ use Rattle.block_check.specs.Crc16.{crc_of}
 use Rattle.dsd_values.specs.Reading.{plain_number_of, dsd_of, quantity_of, total_quantity_of, cents_of, cost_of, check_of, word_of, filled_word_of, word_between}
 use Rattle.dsd_values.specs.declared.extra.Extra.{Extra}
 use Rattle.dsd_values.specs.declared.line.Line.{Line}
-use Rattle.dsd_values.specs.declared.signature.Signature.{Signature}
-use Rattle.dsd_values.specs.declared.limits.TheConstants.{MOST_LINES}
+use Rattle.dsd_values.specs.SignatureRecord.{SignatureRecord}
+use Rattle.dsd_values.specs.declared.limits.TheConstants.{MARK_BYTES, MOST_LINES}
 use Rattle.segments.specs.Views.{Seg, element_of}
 use Rattle.segments.specs.Elements.{optional, tail_from}
 use Rattle.segments.specs.Extras.{AreExtras, HasExtras, IsExtra, kept_text}
@@ -77,8 +77,8 @@ pub record IsTotals (totals : StatedTotals) (seg : Seg) : Type 0 where
   pub ends : IsNoLonger 3 seg
 
 -- G86
-pub record IsSignature (signature : Signature) (seg : Seg) : Type 0 where
-  pub mark : word_between 1 12 (element_of seg 1) ≡ Ok signature.mark
+pub record IsSignature (signature : SignatureRecord) (seg : Seg) : Type 0 where
+  pub mark : word_between 1 MARK_BYTES (element_of seg 1) ≡ Ok signature.mark
   pub name : word_of (element_of seg 2) ≡ Ok signature.name
   pub ends : IsNoLonger 2 seg
 
@@ -90,7 +90,7 @@ pub record Shared : Type 0 where
   pub lines : List Line
   pub extras : List Extra
   pub totals : StatedTotals
-  pub signature : Signature
+  pub signature : SignatureRecord
   pub check : ℕ
 
 -- the segments, joined

@@ -19,3 +19,5 @@ pub mod SegmentRefusal
 pub mod SegmentWriting
 pub mod SetWriting
 pub mod RowsWritten
+pub mod SoundLines
+pub mod SetUnits

@@ -3,6 +3,7 @@ use Rattle.std.specs.Prelude.{◌≡◌, ℕ, ◌+◌, ◌-◌, ◌==◌, if◌t
 use Rattle.std.specs.Int.{bit_at}
 use Rattle.segments.specs.SegmentSpelling.{IsPart, Spells, SpellsSegment}
 use Rattle.segments.specs.SegmentCut.{parts_of, seg_at}
+use Rattle.segments.specs.declared.segment.TheConstants.{SEGMENT_BYTES}
 
 -- the places of the separators behind parts that begin at this place, and last the place behind them all
 abbrev pub ends_from : ℕ → List (List ℕ) → List ℕ
@@ -21,7 +22,7 @@ IsFirstBit bits first = (bit_at bits first ≡ 1) × ((k : ℕ) → k < first �
 pub record IsSpelled (bytes : List ℕ) : Type 0 where
   pub spelled : Spells (parts_of bytes) bytes
   pub characters : All IsPart (parts_of bytes)
-  pub short : length bytes ≤ 512
+  pub short : length bytes ≤ SEGMENT_BYTES
 
 -- a segment in its spelling at this place, and where its parts end
 pub record KeepsSegment (start : ℕ) (bytes ends : List ℕ) : Type 0 where

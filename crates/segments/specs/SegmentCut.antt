@@ -3,6 +3,7 @@ use Rattle.std.specs.Prelude.{ℕ, zero, suc, ◌+◌, Bool, not, ◌==◌, nat_
 use Rattle.std.specs.List.{before_first, position_or_len, slice_split, slice_index_or}
 use Rattle.segments.specs.Views.{Seg, Left}
 use Rattle.segments.specs.SegmentSpelling.{is_inside, is_star, is_id}
+use Rattle.segments.specs.declared.segment.TheConstants.{SEGMENT_BYTES, SEGMENT_ELEMENTS}
 use Rattle.segments.specs.declared.segment_fault.SegmentFault.{SegmentFault}
 use Rattle.segments.specs.declared.segment_fault.SegmentFault.TheVariants.{NoEnd, BadByte, BadId, TooLong, TooManyElements}
 
@@ -18,7 +19,7 @@ body_length rest = position_or_len is_outside rest
 
 -- so many bytes, where a segment may have them
 abbrev pub limited : ℕ → ℕ → Result ℕ SegmentFault
-limited start size = if nat_lt 512 size then Err (TooLong start) else Ok size
+limited start size = if nat_lt SEGMENT_BYTES size then Err (TooLong start) else Ok size
 
 -- what follows a CR, before which so many bytes stand: the byte behind it decides
 abbrev pub after_return : ℕ → ℕ → List ℕ → Result ℕ SegmentFault
@@ -30,13 +31,13 @@ abbrev pub after_body : ℕ → ℕ → List ℕ → Result ℕ SegmentFault
 after_body start size [] = Err (NoEnd start)
 after_body start size (byte ∷ more) =
     if byte == 10 then limited start (size + 1)
-    else (if byte == 13 then (if size == 512 then Err (TooLong start) else after_return start size more)
+    else (if byte == 13 then (if size == SEGMENT_BYTES then Err (TooLong start) else after_return start size more)
     else Err (BadByte (start + size) byte))
 
 -- how many bytes the segment at the front takes, with its terminator
 abbrev pub size_of : ℕ → List ℕ → Result ℕ SegmentFault
 size_of start rest =
-    if nat_lt 512 (body_length rest) then Err (TooLong start)
+    if nat_lt SEGMENT_BYTES (body_length rest) then Err (TooLong start)
     else after_body start (body_length rest) (drop (body_length rest) rest)
 
 -- ---- the parts
@@ -49,7 +50,7 @@ parts_of bytes = slice_split is_star (before_first is_outside bytes)
 abbrev pub with_parts : Seg → Result Seg SegmentFault
 with_parts seg =
     if not (is_id (slice_index_or seg.parts 0 [])) then Err (BadId seg.start)
-    else (if nat_lt 31 (length seg.parts) then Err (TooManyElements seg.start) else Ok seg)
+    else (if nat_lt (SEGMENT_ELEMENTS + 1) (length seg.parts) then Err (TooManyElements seg.start) else Ok seg)
 
 -- the segment of these bytes
 abbrev pub seg_at : ℕ → List ℕ → Seg

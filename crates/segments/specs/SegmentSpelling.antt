@@ -5,6 +5,7 @@ use Rattle.std.specs.Char.{is_ascii_digit, is_ascii_uppercase}
 use Rattle.std.specs.Int.{is_in_range}
 use Rattle.std.specs.List.{AllPass, join_with_byte, list_all, slice_index_or}
 use Rattle.segments.specs.Views.{Seg, Left}
+use Rattle.segments.specs.declared.segment.TheConstants.{SEGMENT_BYTES, SEGMENT_ELEMENTS}
 
 -- the separator of the elements, '*' (X12)
 abbrev pub is_star : ℕ → Bool
@@ -35,7 +36,7 @@ is_id (first ∷ more) = is_ascii_uppercase first && list_all is_id_byte more &&
 pub record IsSegment (parts : List (List ℕ)) : Type 0 where
   pub characters : All IsPart parts
   pub id : IsTrue (is_id (slice_index_or parts 0 []))
-  pub few : length parts ≤ 31
+  pub few : length parts ≤ SEGMENT_ELEMENTS + 1
 
 -- a terminator: LF or CR LF (this profile)
 abbrev pub IsEnding : List ℕ → Type 0
@@ -54,7 +55,7 @@ pub record IsLongSegment (seg : Seg) : Type 0 where
 pub record SpellsSegment (seg : Seg) : Type 0 where
   pub segment : IsSegment seg.parts
   pub spelled : Spells seg.parts seg.bytes
-  pub short : length seg.bytes ≤ 512
+  pub short : length seg.bytes ≤ SEGMENT_BYTES
 
 -- the segment is spelled at the front of what was left, and the rest stands behind it
 pub record IsFront (seg : Seg) (old new : Left) : Type 0 where

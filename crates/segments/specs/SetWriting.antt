@@ -8,7 +8,7 @@ use Rattle.dsd_values.specs.declared.allowance.Allowance.{Allowance}
 use Rattle.dsd_values.specs.declared.extra.Extra.{Extra}
 use Rattle.dsd_values.specs.declared.extra.Extra.TheVariants.{Allow, Note}
 use Rattle.dsd_values.specs.declared.line.Line.{Line}
-use Rattle.dsd_values.specs.declared.signature.Signature.{Signature}
+use Rattle.dsd_values.specs.SignatureRecord.{SignatureRecord}
 use Rattle.segments.specs.Kinds.{item_id, set_code}
 use Rattle.segments.specs.SegmentSpelling.{is_star}
 use Rattle.segments.specs.SegmentWriting.{text_of}
@@ -94,7 +94,7 @@ abbrev pub totals_row : StatedTotals → Row
 totals_row totals = row_of (codes "G84") (number_text totals.quantity ∷ number_text totals.amount ∷ optional_text number_text totals.deposit ∷ []) []
 
 -- G86: the signature
-abbrev pub signature_row : Signature → Row
+abbrev pub signature_row : SignatureRecord → Row
 signature_row signature = row_of (codes "G86") (signature.mark ∷ signature.name ∷ []) []
 
 -- G85: the CRC-16 of the text of the rows before it
@@ -108,7 +108,7 @@ trailer_row count control = row_of (codes "SE") (number_text count ∷ control_t
 -- ---- the set
 
 -- what stands between the references and the integrity value
-abbrev pub body_rows : Form → List Line → List Extra → StatedTotals → Signature → List Row
+abbrev pub body_rows : Form → List Line → List Extra → StatedTotals → SignatureRecord → List Row
 body_rows form lines extras totals signature = loop_rows form lines ++ (map extra_row extras ++ totals_row totals ∷ signature_row signature ∷ [])
 
 -- the integrity value and the trailer, behind so many rows of this text

@@ -3,7 +3,7 @@ use Rattle.std.specs.Prelude.{ℕ, Bool, true, false, List, [], ◌∷◌, ◌++
 use Rattle.dsd_values.specs.Behind.{with_extra}
 use Rattle.dsd_values.specs.declared.extra.Extra.{Extra}
 use Rattle.dsd_values.specs.declared.line.Line.{Line}
-use Rattle.dsd_values.specs.declared.signature.Signature.{Signature}
+use Rattle.dsd_values.specs.SignatureRecord.{SignatureRecord}
 use Rattle.segments.specs.Views.{Seg}
 use Rattle.segments.specs.Extras.{kept_text, extra_in}
 use Rattle.segments.specs.Tables.{line_in, control_in, loop_id_in, totals_in, signature_in, integrity_in}
@@ -25,15 +25,13 @@ pub record SoFar : Type 0 where
   -- those of the record; those of a line stand in it
   pub extras : List Extra
   pub totals : StatedTotals
-  pub signature : Signature
+  -- none where it has not come
+  pub signature : Option SignatureRecord
   pub integrity : ℕ
 
 -- before any has come
 abbrev pub no_totals : StatedTotals
 no_totals = record { quantity = 0; amount = 0; deposit = None }
-
-abbrev pub no_signature : Signature
-no_signature = record { mark = []; name = [] }
 
 -- no segment has come
 abbrev pub nothing : SoFar
@@ -47,7 +45,7 @@ nothing = record {
   lines = [];
   extras = [];
   totals = no_totals;
-  signature = no_signature;
+  signature = None;
   integrity = 0;
 }
 
@@ -89,8 +87,8 @@ abbrev pub totals_after : Kind → StatedTotals → StatedTotals → StatedTotal
 totals_after kinds.Totals new old = new
 totals_after _ new old = old
 
-abbrev pub signature_after : Kind → Signature → Signature → Signature
-signature_after kinds.Signature new old = new
+abbrev pub signature_after : Kind → SignatureRecord → Option SignatureRecord → Option SignatureRecord
+signature_after kinds.Signature new old = Some new
 signature_after _ new old = old
 
 abbrev pub integrity_after : Kind → ℕ → ℕ → ℕ

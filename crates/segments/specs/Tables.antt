@@ -3,8 +3,9 @@
 -- are this project's profile.
 use Rattle.std.specs.Prelude.{ℕ, List, [], Option, None}
 use Rattle.dsd_values.specs.Reading.{plain_number_of, dsd_of, quantity_of, total_quantity_of, cents_of, cost_of, check_of, word_of, filled_word_of, word_between}
+use Rattle.dsd_values.specs.declared.limits.TheConstants.{MARK_BYTES}
 use Rattle.dsd_values.specs.declared.line.Line.{Line}
-use Rattle.dsd_values.specs.declared.signature.Signature.{Signature}
+use Rattle.dsd_values.specs.SignatureRecord.{SignatureRecord}
 use Rattle.segments.specs.Views.{Seg, element_of}
 use Rattle.segments.specs.Elements.{ElementFault, ◌or_else◌, at_element, said, optional, no_more, tail_from}
 use Rattle.segments.specs.declared.stated.StatedTotals.{StatedTotals}
@@ -77,12 +78,12 @@ totals_in seg = record {
 
 abbrev pub signature_fault : Seg → Option ElementFault
 signature_fault seg =
-    at_element 1 (word_between 1 12 (element_of seg 1))
+    at_element 1 (word_between 1 MARK_BYTES (element_of seg 1))
     or_else at_element 2 (word_of (element_of seg 2))
     or_else no_more 2 seg
 
-abbrev pub signature_in : Seg → Signature
-signature_in seg = record { mark = said [] (word_between 1 12 (element_of seg 1)); name = said [] (word_of (element_of seg 2)) }
+abbrev pub signature_in : Seg → SignatureRecord
+signature_in seg = record { mark = said [] (word_between 1 MARK_BYTES (element_of seg 1)); name = said [] (word_of (element_of seg 2)) }
 
 -- ---- G85, the integrity value
 

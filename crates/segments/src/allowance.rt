@@ -2,9 +2,10 @@
 
 ghost use Rattle.std.specs.Prelude.{◌≡◌, None, IfOk, Ok, IsTrue};
 ghost use Rattle.dsd_values.specs.Answers.{UnlessMemory};
+ghost use Rattle.dsd_values.specs.Methods.{counts as changes_price};
 ghost use Rattle.dsd_values.specs.Reading.{cost_of, percent_of, quantity_of};
 ghost use Rattle.dsd_values.specs.declared.allowance.Allowance.{Allowance as Item};
-ghost use Rattle.segments.specs.Allowances.{HasSize, IsAllowance, allowance_fault, allowance_in, counts as changes_price, is_left_out as left_out, lacks_quantity as lacks_its_quantity, lacks_size as lacks_its_size, missing};
+ghost use Rattle.segments.specs.Allowances.{HasSize, IsAllowance, allowance_fault, allowance_in, is_left_out as left_out, lacks_quantity as lacks_its_quantity, lacks_size as lacks_its_size, missing};
 ghost use Rattle.segments.specs.Elements.{Reads, at_element, optional, said};
 ghost use Rattle.segments.specs.Views.{element_of};
 
@@ -13,7 +14,9 @@ use crate::elements::{
 };
 use crate::item_fault::ItemFault;
 use crate::segment::Segment;
-use dsd_values::{Allowance, Cost, Percent, Quantity, ValueFault, Word, read_percent};
+use dsd_values::{
+    Allowance, Cost, HeldAllowance, Method, Percent, Quantity, ValueFault, Word, read_percent,
+};
 use std::alloc::Global;
 
 /// The allowance of a G72 in a line or at record level: its nine elements, and the tail behind them. What must be there goes by the
@@ -22,7 +25,7 @@ pub fn read_allowance(
     alloc: Global,
     segment: &Segment<'_>,
     in_line: bool,
-) -> Result<Allowance, ItemFault>
+) -> Result<HeldAllowance, ItemFault>
     ensures exact { Reads result (allowance_fault in_line segment.now) (λ allowance. allowance ≡ allowance_in segment.now) }
 
     // What is read says so, and what says so is read.
@@ -39,7 +42,7 @@ fn parse_allowance(
     alloc: Global,
     segment: &Segment<'_>,
     in_line: bool,
-) -> Result<Allowance, ItemFault>
+) -> Result<HeldAllowance, ItemFault>
     ensures { Reads result (allowance_fault in_line segment.now) (λ allowance. allowance ≡ allowance_in segment.now) }
 {
     let code = filled_text_at(segment, 1)?;
@@ -55,7 +58,7 @@ fn parse_allowance(
     let percent = optional_percent_at(segment, 9)?;
     let tail = tail_at(alloc, segment, 10)?;
     // The words are made last, each in its place: one that is made at its element is moved at each step behind it.
-    Ok(Allowance {
+    let allowance = Allowance {
         code: Word::new(code),
         method: Word::new(method),
         number: Word::new(number),
@@ -66,7 +69,8 @@ fn parse_allowance(
         total,
         percent,
         tail,
-    })
+    };
+    Ok(HeldAllowance::new(alloc, allowance)?)
 }
 
 /// Refuses an element that is needed and left out.
@@ -105,8 +109,7 @@ fn lacks_size(segment: &Segment<'_>) -> bool
 fn counts(segment: &Segment<'_>) -> bool
     ensures { result ≡ changes_price (element_of segment.now 2) }
 {
-    let method = segment.element(2);
-    method == b"02".as_slice() || method == b"06".as_slice()
+    Method::named(segment.element(2)).changes_price()
 }
 
 fn is_left_out(segment: &Segment<'_>, element: usize) -> bool

@@ -11,7 +11,7 @@ use crate::elements::{
 use crate::item_fault::ItemFault;
 use crate::segment::Segment;
 use crate::stated::StatedTotals;
-use dsd_values::{Check, Signature, Word};
+use dsd_values::{Check, MARK_BYTES, Signature, Word};
 
 /// The control number of an ST.
 pub fn read_start(segment: &Segment<'_>) -> Result<Word, ItemFault>
@@ -50,10 +50,10 @@ pub fn read_totals(segment: &Segment<'_>) -> Result<StatedTotals, ItemFault>
 pub fn read_signature(segment: &Segment<'_>) -> Result<Signature, ItemFault>
     ensures { Reads result (signature_fault segment.now) (λ signature. signature ≡ signature_in segment.now) }
 {
-    let mark = word_between_at(segment, 1, 1, 12)?;
+    let mark = word_between_at(segment, 1, 1, MARK_BYTES)?;
     let name = word_at(segment, 2)?;
     end_of_elements(segment, 2)?;
-    Ok(Signature { mark, name })
+    Ok(Signature::new(mark, name))
 }
 
 /// The integrity value that a G85 states.

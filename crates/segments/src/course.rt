@@ -1,6 +1,6 @@
 //! The course of a set: what its segments say so far, one segment after another.
 
-ghost use Rattle.std.specs.Prelude.{◌≡◌, ℕ, ◌+◌, ◌<◌, ◌≤◌, List, [], ◌∷◌, ◌++◌, false, length, All, IfOk, OnOk, None, Some, Err};
+ghost use Rattle.std.specs.Prelude.{◌≡◌, ℕ, ◌+◌, ◌<◌, ◌≤◌, List, [], ◌∷◌, ◌++◌, false, true, length, All, IfOk, OnErr, OnOk, MatchOption, None, Some, Err};
 ghost use Rattle.block_check.specs.Crc16.{crc_from};
 ghost use Rattle.segments.specs.Tables.{line_in, integrity_in};
 ghost use Rattle.segments.specs.Kinds.{next_phase, is_done as done_at};
@@ -11,7 +11,7 @@ ghost use Rattle.segments.specs.Numbers.{HasRoom};
 ghost use Rattle.dsd_values.specs.declared.extra.Extra.TheVariants.{Allow, Note};
 ghost use Rattle.segments.specs.Views.{element_of};
 ghost use Rattle.segments.specs.Elements.{Reads};
-ghost use Rattle.segments.specs.Closing.{IsClosed};
+ghost use Rattle.segments.specs.Closing.{IsClosed, is_closed};
 ghost use Rattle.segments.specs.Reasons.{Says, at_segment, admission, allowance_reason, beside, has_line, item_reason, when, loop_end_fault, integrity_reason, trailer_reason, course_reason};
 
 use crate::allowance::read_allowance;
@@ -50,7 +50,7 @@ pub struct Course {
     lines: NumberedLines,
     extras: RecordExtras,
     totals: StatedTotals,
-    signature: Signature,
+    signature: Option<Signature>,
     integrity: Check,
 }
 
@@ -82,10 +82,7 @@ impl Course {
                 amount: Cents::new(0),
                 deposit: None,
             },
-            signature: Signature {
-                mark: Word::empty(),
-                name: Word::empty(),
-            },
+            signature: None,
             integrity: Check::new(0),
         })
     }
@@ -112,8 +109,9 @@ impl Course {
     #[tactic(auto, unfolding(crate::specs::SoFar::kept))]
     pub fn keep(&mut self, kind: Kind, segment: &Segment<'_>) -> Result<(), SetFault>
         requires { self.old.count ≤ SET_BYTES }
-        ensures { Says result segment.now.start (course_reason self.old segment.now kind)
+        ensures said { Says result segment.now.start (course_reason self.old segment.now kind)
             (λ _. self.new ≡ kept self.old segment.now kind self.old.phase self.old.count self.old.check) }
+        ensures err { OnErr result (self.new ≡ self.old) }
     {
         match kind {
             Kind::Start => self.control = at(segment, read_start(segment))?,
@@ -121,7 +119,7 @@ impl Course {
             Kind::Item => return self.keep_item(segment),
             Kind::LoopEnd => at(segment, loop_end(segment, &self.loop_id))?,
             Kind::Totals => return self.keep_totals(segment),
-            Kind::Signature => self.signature = at(segment, read_signature(segment))?,
+            Kind::Signature => self.signature = Some(at(segment, read_signature(segment))?),
             Kind::Integrity => self.integrity = integrity(segment, self.check.value())?,
             Kind::Trailer => trailer(segment, &self.control, self.count + 1)?,
             Kind::Reference => {
@@ -138,8 +136,9 @@ impl Course {
     /// Keeps the stated totals.
     #[tactic(auto, unfolding(crate::specs::SoFar::kept))]
     fn keep_totals(&mut self, segment: &Segment<'_>) -> Result<(), SetFault>
-        ensures { Says result segment.now.start (course_reason self.old segment.now Kind.Totals)
+        ensures said { Says result segment.now.start (course_reason self.old segment.now Kind.Totals)
             (λ _. self.new ≡ kept self.old segment.now Kind.Totals self.old.phase self.old.count self.old.check) }
+        ensures err { OnErr result (self.new ≡ self.old) }
     {
         match read_totals(segment) {
             Ok(totals) => self.totals = totals,
@@ -150,7 +149,8 @@ impl Course {
 
     /// Keeps the line of an item.
     fn keep_item(&mut self, segment: &Segment<'_>) -> Result<(), SetFault>
-        ensures { Says result segment.now.start (item_reason self.old.lines segment.now) (λ _. self.new ≡ with_line (line_in segment.now) self.old) }
+        ensures said { Says result segment.now.start (item_reason self.old.lines segment.now) (λ _. self.new ≡ with_line (line_in segment.now) self.old) }
+        ensures err { OnErr result (self.new ≡ self.old) }
     {
         if self.lines.len() >= MOST_LINES {
             return refuse(segment, SetReason::Limit);
@@ -165,7 +165,8 @@ impl Course {
     fn push_line(&mut self, segment: &Segment<'_>, line: Line) -> Result<(), SetFault>
         requires room { length self.old.lines < MOST_LINES }
         requires bare { line.extras ≡ [] }
-        ensures { Says result segment.now.start (when (has_line line.dsd self.old.lines) (SetReason.Twice line.dsd)) (λ _. self.new ≡ with_line line self.old) }
+        ensures said { Says result segment.now.start (when (has_line line.dsd self.old.lines) (SetReason.Twice line.dsd)) (λ _. self.new ≡ with_line line self.old) }
+        ensures err { OnErr result (self.new ≡ self.old) }
     {
         if self.lines.has(line.dsd) {
             return refuse(segment, SetReason::Twice(line.dsd));
@@ -176,8 +177,9 @@ impl Course {
 
     /// Keeps an allowance, behind the last line or at record level.
     fn keep_allowance(&mut self, segment: &Segment<'_>) -> Result<(), SetFault>
-        ensures { Says result segment.now.start (allowance_reason (in_line self.old.phase) (allowances (beside self.old)) segment.now)
+        ensures said { Says result segment.now.start (allowance_reason (in_line self.old.phase) (allowances (beside self.old)) segment.now)
             (λ _. self.new ≡ with_beside (Allow (allowance_in segment.now)) self.old) }
+        ensures err { OnErr result (self.new ≡ self.old) }
     {
         if self.allowances_beside() >= MOST_ALLOWANCES {
             return refuse(segment, SetReason::Limit);
@@ -191,7 +193,8 @@ impl Course {
 
     /// Keeps a note, behind the last line or at record level.
     fn keep_note(&mut self, segment: &Segment<'_>) -> Result<(), SetFault>
-        ensures { Says result segment.now.start None (λ _. self.new ≡ with_beside (Note (kept_text segment.now)) self.old) }
+        ensures said { Says result segment.now.start None (λ _. self.new ≡ with_beside (Note (kept_text segment.now)) self.old) }
+        ensures err { OnErr result (self.new ≡ self.old) }
     {
         let text = at(segment, kept_at(self.alloc, segment))?;
         self.push_extra(Extra::Note(text))?;
@@ -214,7 +217,8 @@ impl Course {
     fn push_extra(&mut self, extra: Extra) -> Result<(), Memory>
         requires sized { IsSized (in_line self.old.phase) extra }
         requires room { HasRoom extra (beside self.old) }
-        ensures { OnOk result (self.new ≡ with_beside extra self.old) }
+        ensures ok { OnOk result (self.new ≡ with_beside extra self.old) }
+        ensures err { OnErr result (self.new ≡ self.old) }
     {
         if self.phase.in_line() {
             self.lines.push_extra(extra)
@@ -265,24 +269,39 @@ impl Course {
         self.extras.as_slice()
     }
 
-    /// What the set stated.
-    pub fn close(self) -> Closed
-        ensures { IsClosed self result }
+    /// What the set stated, where it is whole.
+    pub fn close(self) -> Option<Closed>
+        ensures { MatchOption result (is_closed self ≡ false) (λ closed. (is_closed self ≡ true) × IsClosed self closed) }
     {
-        Closed {
-            control: self.control,
-            references: self.references,
-            lines: self.lines.into_lines(),
-            extras: self.extras.into_extras(),
-            totals: self.totals,
-            signature: self.signature,
-            check: self.integrity,
+        let Course {
+            phase,
+            control,
+            references,
+            lines,
+            extras,
+            totals,
+            signature,
+            integrity,
+            ..
+        } = self;
+        match signature {
+            Some(signature) if phase.is_done() => Some(Closed {
+                control,
+                references,
+                lines: lines.into_lines(),
+                extras: extras.into_extras(),
+                totals,
+                signature,
+                check: integrity,
+            }),
+            _ => None,
         }
     }
 }
 
 fn push_text(texts: &mut Vec<Kept>, text: Kept) -> Result<(), Memory>
-    ensures { OnOk result (texts.new.items ≡ texts.old.items ++ text ∷ []) }
+    ensures ok { OnOk result (texts.new.items ≡ texts.old.items ++ text ∷ []) }
+    ensures err { OnErr result (texts.new.items ≡ texts.old.items) }
 {
     texts.push(text)?;
     Ok(())

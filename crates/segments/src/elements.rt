@@ -6,6 +6,7 @@ ghost use Rattle.dsd_values.specs.Answers.{UnlessMemory};
 ghost use Rattle.dsd_values.specs.Reading.{IsElementText, plain_number_of, dsd_of, quantity_of, total_quantity_of, cents_of, cost_of, check_of, word_of, filled_word_of, word_between};
 ghost use Rattle.segments.specs.Extras.{kept_text};
 ghost use Rattle.segments.specs.Views.{element_of};
+ghost use Rattle.segments.specs.declared.segment.TheConstants.{SEGMENT_ELEMENTS};
 ghost use Rattle.dsd_values.specs.declared.fault.ValueFault.TheVariants.{TooLong};
 ghost use Rattle.segments.specs.Elements.{Reads, at_element, said, optional, no_more, filled_from, tail_from, without_end_stars as trimmed};
 
@@ -156,7 +157,7 @@ pub fn check_at(segment: &Segment<'_>, element: usize) -> Result<Check, ItemFaul
 
 /// Refuses the first element behind the last listed one that is not empty.
 pub fn end_of_elements(segment: &Segment<'_>, last: usize) -> Result<(), ItemFault>
-    requires { last ≤ 30 }
+    requires { last ≤ SEGMENT_ELEMENTS }
     ensures { Reads result (no_more last segment.now) (λ _. Unit {0}) }
 {
     for element in last + 1..segment.count() + 1 {
@@ -186,7 +187,7 @@ pub fn tail_at(alloc: Global, segment: &Segment<'_>, first: usize) -> Result<Kep
 {
     let tail = segment.tail_from(first);
     if tail.is_empty() {
-        return Ok(Kept::empty(alloc));
+        return Ok(Kept::empty());
     }
     kept(alloc, tail)
 }

@@ -1,6 +1,9 @@
 //! Items: a line of a delivery, read from its segment.
 
-ghost use Rattle.std.specs.Prelude.{◌≡◌};
+ghost use Rattle.std.specs.Prelude.{◌≡◌, [], IfOk, Ok};
+ghost use Rattle.dsd_values.specs.Answers.{UnlessMemory};
+ghost use Rattle.dsd_values.specs.declared.line.Line.{Line as Read};
+ghost use Rattle.segments.specs.Grammar.{IsItem};
 ghost use Rattle.segments.specs.Elements.{Reads};
 ghost use Rattle.segments.specs.Tables.{item_fault, line_in};
 
@@ -12,6 +15,16 @@ use std::alloc::Global;
 
 /// The line of a G83 or a G89: its ten elements, and the tail behind them. The id of the segment is not looked at.
 pub fn read_item(alloc: Global, segment: &Segment<'_>) -> Result<Line, ItemFault>
+    ensures exact { Reads result (item_fault segment.now) (λ line. line ≡ line_in segment.now) }
+
+    // What is read says so, and what says so is read.
+    ensures found { IfOk result (λ line. IsItem line segment.now × (line.extras ≡ [])) }
+    ensures only { (line : Read) → IsItem line segment.now → line.extras ≡ [] → UnlessMemory ItemFault.Memory result (Ok line) }
+{
+    parse_item(alloc, segment)
+}
+
+fn parse_item(alloc: Global, segment: &Segment<'_>) -> Result<Line, ItemFault>
     ensures { Reads result (item_fault segment.now) (λ line. line ≡ line_in segment.now) }
 {
     let dsd = dsd_at(segment, 1)?;

@@ -23,6 +23,7 @@ mod segment_write_fault;
 mod segment_writer;
 mod set_fault;
 mod set_writer;
+mod sound_laws;
 mod stated;
 mod texts;
 mod writing_laws;
@@ -44,8 +45,9 @@ pub use segment_write_fault::{SEGMENT_WRITTEN, SegmentWriteFault};
 pub use segment_writer::SegmentWriter;
 pub use set_fault::{SetFault, SetReason};
 pub use set_writer::SetWriter;
+pub use sound_laws::{sound_extras, sound_lines};
 pub use stated::{Closed, StatedTotals};
-pub use texts::flag_letter;
+pub use texts::{MOST_CONTROL_NUMBER, flag_letter};
 pub use writing_laws::written_segments_are_read;
 
 #[cfg(test)]

@@ -4,6 +4,7 @@ ghost use Rattle.arrayvec.specs.ArrayVec.{array_vec_len};
 ghost use Rattle.segments.specs.PartEnds.{IsFirstBit, ends_from};
 ghost use Rattle.segments.specs.SegmentCut.{body_length, is_outside, parts_of};
 ghost use Rattle.segments.specs.SegmentSpelling.{is_star};
+ghost use Rattle.segments.specs.declared.segment.TheConstants.{SEGMENT_BYTES};
 
 use arrayvec::ArrayVec;
 use std::simd::prelude::*;
@@ -25,7 +26,7 @@ pub struct Body {
 /// The body at the front of these bytes, found in one pass: a block of bytes is looked at together, and then only those
 /// that end a part. Past the end of the bytes a block has zeros, which are outside.
 pub fn body_at(front: &[u8]) -> Body
-    requires { length front.now ≤ 513 }
+    requires { length front.now ≤ SEGMENT_BYTES + 1 }
     ensures length { result.length ≡ body_length front.now }
     ensures ends { result.ends.items ≡ take 32 (ends_from 0 (parts_of front.now)) }
 {
@@ -53,7 +54,7 @@ pub fn body_at(front: &[u8]) -> Body
 /// Notes one more end, where there is room.
 #[tactic(auto, using(crate::proofs::Scan::taken_all, crate::proofs::Scan::taken_full))]
 fn push_end(ends: &mut PartEnds, place: usize)
-    requires { place ≤ 513 }
+    requires { place ≤ SEGMENT_BYTES + 1 }
     ensures { ends.new.items ≡ take 32 (ends.old.items ++ place ∷ []) }
 {
     if ends.len() < ends.capacity() {
@@ -63,7 +64,7 @@ fn push_end(ends: &mut PartEnds, place: usize)
 
 /// Notes one more end.
 fn add_end(ends: &mut PartEnds, place: usize)
-    requires place { place ≤ 513 }
+    requires place { place ≤ SEGMENT_BYTES + 1 }
     requires room { length ends.old.items < 32 }
     ensures { ends.new.items ≡ ends.old.items ++ place ∷ [] }
 {

@@ -89,8 +89,8 @@ fn first_segment<'a>(start: usize, rest: &'a [u8]) -> Result<Segment<'a>, Segmen
 
 /// The bytes that decide: as many as a segment may have, and one more.
 fn first_bytes(rest: &[u8]) -> &[u8]
-    ensures value { result.now ≡ take 513 rest.now }
-    ensures short { length result.now ≤ 513 }
+    ensures value { result.now ≡ take (SEGMENT_BYTES + 1) rest.now }
+    ensures short { length result.now ≤ SEGMENT_BYTES + 1 }
 {
     &rest[..(SEGMENT_BYTES + 1).min(rest.len())]
 }
@@ -103,9 +103,9 @@ fn first(rest: &[u8], size: usize) -> &[u8]
     &rest[..size]
 }
 
-/// How many bytes the segment at the front takes, with its terminator, where so many of the first 513 stand before it.
+/// How many bytes the segment at the front takes, with its terminator, where so many of the first bytes stand before it.
 fn first_size(start: usize, body: usize, rest: &[u8]) -> Result<usize, SegmentFault>
-    requires front { body ≡ body_length (take 513 rest.now) }
+    requires front { body ≡ body_length (take (SEGMENT_BYTES + 1) rest.now) }
     requires placed { start + length rest.now < 2 ^ 64 }
     ensures { result ≡ size_of start rest.now }
 {

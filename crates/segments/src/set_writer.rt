@@ -2,7 +2,8 @@
 
 ghost use Rattle.std.specs.Prelude.{◌≡◌, [], ◌∷◌, All, IfOk, map};
 ghost use Rattle.std.specs.List.{flat_map};
-ghost use Rattle.dsd_values.specs.Answers.{UnlessMemory};
+ghost use Rattle.block_check.specs.Crc16.{crc_of};
+ghost use Rattle.dsd_values.specs.Answers.{Gives, UnlessMemory};
 ghost use Rattle.segments.specs.RowsWritten.{after_writing, no_rows, text_after};
 ghost use Rattle.segments.specs.SegmentSpelling.{IsSegment};
 ghost use Rattle.segments.specs.SegmentWriting.{IsWrittenText};
@@ -158,7 +159,7 @@ impl SetWriter {
         ensures { UnlessMemory SegmentWriteFault.Memory result (after_writing (extra_row extra.now ∷ []) self) }
     {
         match extra {
-            Extra::Allow(allowance) => self.allowance(allowance),
+            Extra::Allow(allowance) => self.allowance(allowance.get()),
             Extra::Note(text) => self.kept(text),
         }
     }
@@ -227,7 +228,7 @@ impl SetWriter {
     {
         self.row(
             b"G86",
-            &[signature.mark.as_slice(), signature.name.as_slice()],
+            &[signature.mark().as_slice(), signature.name().as_slice()],
             b"",
         )
     }
@@ -250,19 +251,21 @@ impl SetWriter {
             .signature(signature)
     }
 
-    /// Writes the integrity value and the trailer, and hands on the text.
-    pub fn seal(self, control: u32) -> Result<SetText, SegmentWriteFault>
-        ensures exact { UnlessMemory SegmentWriteFault.Memory result (text_after (sealing_rows self.text self.count control) self) }
-        ensures spelled { IfOk result IsWrittenText }
-    {
-        let writer = self.sealing(control)?;
-        Ok(writer.segments.finish())
-    }
-
-    fn sealing(self, control: u32) -> Result<SetWriter, SegmentWriteFault>
-        ensures { UnlessMemory SegmentWriteFault.Memory result (after_writing (sealing_rows self.text self.count control) self) }
+    /// Writes the integrity value and the trailer, and hands on the text with the integrity value that it states.
+    pub fn seal(self, control: u32) -> Result<(SetText, Check), SegmentWriteFault>
+        ensures exact { Gives SegmentWriteFault.Memory (λ sealed. sealed.0) result (text_after (sealing_rows self.text self.count control) self) }
+        ensures check { IfOk result (λ sealed. sealed.1 ≡ crc_of self.text) }
+        ensures spelled { IfOk result (λ sealed. IsWrittenText sealed.0) }
     {
         let check = Check::new(check_of(self.segments.written()));
+        let writer = self.sealing(check, control)?;
+        Ok((writer.segments.finish(), check))
+    }
+
+    fn sealing(self, check: Check, control: u32) -> Result<SetWriter, SegmentWriteFault>
+        requires { check ≡ crc_of self.text }
+        ensures { UnlessMemory SegmentWriteFault.Memory result (after_writing (sealing_rows self.text self.count control) self) }
+    {
         let count = write_plain_number(self.count as u64 + 2);
         let control = control_digits(control);
         self.row(b"G85", &[write_check(check).as_slice()], b"")?

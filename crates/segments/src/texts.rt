@@ -12,6 +12,9 @@ use dsd_values::{
     write_plain_number, write_quantity,
 };
 
+/// The greatest control number that is written.
+pub const MOST_CONTROL_NUMBER: u32 = 999_999_999;
+
 /// A control number in digits, at least four of them.
 pub fn control_digits(control: u32) -> ArrayVec<u8, 24>
     ensures text { result.items ≡ control_text control }

@@ -3,7 +3,7 @@ use Rattle.std.specs.List.{All}
 use Rattle.std.proofs.lemmas.List.Elements.{All-head, All-tail}
 use Rattle.dsd_values.specs.declared.extra.Extra.{Extra}
 use Rattle.dsd_values.specs.declared.line.Line.{Line}
-use Rattle.dsd_values.specs.declared.signature.Signature.{Signature}
+use Rattle.dsd_values.specs.SignatureRecord.{SignatureRecord}
 use Rattle.segments.specs.SegmentSpelling.{IsSegment}
 use Rattle.segments.specs.SetWriting.{Row, body_rows, extra_row, loop_rows, signature_row, totals_row}
 use Rattle.segments.specs.declared.kind.Form.{Form}
@@ -12,16 +12,16 @@ use Rattle.segments.proofs.Rows.{all_back, all_front, both_written, first_refuse
 use Rattle.segments.proofs.set_writer.SetWriter.body.Goals as goal
 
 -- behind the loop, and behind the extras
-abbrev ending : StatedTotals → Signature → List Row
+abbrev ending : StatedTotals → SignatureRecord → List Row
 ending totals signature = totals_row totals ∷ signature_row signature ∷ []
 
-abbrev behind : List Extra → StatedTotals → Signature → List Row
+abbrev behind : List Extra → StatedTotals → SignatureRecord → List Row
 behind extras totals signature = map extra_row extras ++ ending totals signature
 
-asked_behind : (form : Form) (lines : List Line) (extras : List Extra) (totals : StatedTotals) (signature : Signature) → All IsSegment (body_rows form lines extras totals signature) → All IsSegment (behind extras totals signature)
+asked_behind : (form : Form) (lines : List Line) (extras : List Extra) (totals : StatedTotals) (signature : SignatureRecord) → All IsSegment (body_rows form lines extras totals signature) → All IsSegment (behind extras totals signature)
 asked_behind form lines extras totals signature all = all_back IsSegment (loop_rows form lines) (behind extras totals signature) all
 
-asked_ending : (form : Form) (lines : List Line) (extras : List Extra) (totals : StatedTotals) (signature : Signature) → All IsSegment (body_rows form lines extras totals signature) → All IsSegment (ending totals signature)
+asked_ending : (form : Form) (lines : List Line) (extras : List Extra) (totals : StatedTotals) (signature : SignatureRecord) → All IsSegment (body_rows form lines extras totals signature) → All IsSegment (ending totals signature)
 asked_ending form lines extras totals signature all = all_back IsSegment (map extra_row extras) (ending totals signature) (asked_behind form lines extras totals signature all)
 
 pub items-requires : goal.items-requires
