@@ -7,6 +7,8 @@ use Rattle.dsd_values.specs.declared.extra.Extra.{Extra}
 use Rattle.dsd_values.specs.declared.line.Line.{Line}
 use Rattle.segments.specs.Extras.{HasExtras, extra_in, kept_text}
 use Rattle.dsd_values.specs.declared.limits.TheConstants.{MOST_LINES, SET_BYTES}
+use Rattle.std.specs.Option.{is_some}
+use Rattle.dsd_values.specs.SignatureRecord.{SignatureRecord}
 use Rattle.segments.specs.Views.{Seg}
 use Rattle.segments.specs.Kinds.{kind_of, next_phase, is_done}
 use Rattle.segments.specs.SoFar.{SoFar, extras_after, in_line, kept, phase_in}
@@ -36,7 +38,7 @@ use Rattle.adjustment_895.specs.Said.{Said, nothing, level_in, level_reason, own
 use Rattle.adjustment_895.specs.FirstRefusal.{judged}
 use Rattle.segments.specs.Refusal.{refusal_from, said_by}
 use Rattle.adjustment_895.specs.ReadParts.{IsReadFrom, answer_of, first_note, seal_of}
-use Rattle.adjustment_895.specs.declared.head.Head.{Head}
+use Rattle.adjustment_895.specs.declared.head.AnswerHead.{AnswerHead}
 use Rattle.adjustment_895.specs.declared.parts.Parts.{Parts}
 use Rattle.adjustment_895.proofs.Moves.{Rest895, head_of, back, forth}
 
@@ -189,7 +191,7 @@ holds_on m seg st h =
 
 whole_end : (segs : List Seg) (m : Said) (place : ℕ) (fault : Option SegmentFault) → refusal_from judged m place segs fault ≡ None → Holds m → place ≤ SET_BYTES
     → Holds (said_by judged m segs) × (end_of place segs ≤ SET_BYTES) × (is_done (said_by judged m segs).course.phase ≡ true)
-whole_end [] m place fault e h p = (h, p, (and_both _ _ (ended_none _ place fault e).0).0)
+whole_end [] m place fault e h p = (h, p, (and_both _ _ (and_both _ _ (ended_none _ place fault e).0).0).0)
 whole_end (seg ∷ segs) m place fault e h p =
     let n = refused_none (reason_of m seg) seg.start _ e in
     let st = stands m seg n.0 in
@@ -197,7 +199,11 @@ whole_end (seg ∷ segs) m place fault e h p =
 
 -- ---- what stands to the end is the rest of an answer
 
-some_head : (h : Option Head) (head : Head) → Some head ≡ h → has_head h ≡ true
+some_signed : (s : Option SignatureRecord) (signature : SignatureRecord) → Some signature ≡ s → is_some s ≡ true
+some_signed (Some s) signature e = refl
+some_signed None signature e = cc
+
+some_head : (h : Option AnswerHead) (head : AnswerHead) → Some head ≡ h → has_head h ≡ true
 some_head (Some h) head e = refl
 some_head None head e = cc
 
@@ -207,7 +213,7 @@ pub record IsWhole (from : Phase) (m : Said) (a : AnswerRecord) (s : Seal) : Typ
   pub head : Some (head_of a) ≡ m.head
   pub read : Read m.course (shared_of a s)
   pub totals : (shared_of a s).totals ≡ m.course.totals
-  pub signature : a.signature ≡ m.course.signature
+  pub signature : Some a.signature ≡ m.course.signature
   pub check : s.check ≡ m.course.integrity
 
 found_rest : (segs : List Seg) (m : Said) (before : List Seg) (place : ℕ) (fault : Option SegmentFault) (a : AnswerRecord) (s : Seal) → IsAt before m.course → refusal_from judged m place segs fault ≡ None
@@ -215,7 +221,7 @@ found_rest : (segs : List Seg) (m : Said) (before : List Seg) (place : ℕ) (fau
 unfolding kept kept_by
 found_rest [] m before place fault a s at e w =
     let whole = and_both _ _ (ended_none _ place fault e).0 in
-    let done = done_is m.course.phase whole.0 in
+    let done = done_is m.course.phase (and_both _ _ whole.0).0 in
     subst (λ (p : Phase). Rest895 p m a s before []) done (w.head, (w.read, w.totals, w.signature, w.check, refl))
 found_rest (seg ∷ segs) m before place fault a s at e w =
     let n = refused_none (reason_of m seg) seg.start _ e in
@@ -254,7 +260,7 @@ found_so text a s e w =
     let ends = whole_end segs nothing 0 (cut_of text).fault e begin_holds zero_in in
     let m = said_by judged nothing segs in
     let level : IsLevelled m.course.lines (level_in m.head) = done_levelled m.course.phase m.course.lines (level_in m.head) ends.2 ends.0.level in
-    let there : IsLevelled m.course.lines a.level = subst (λ (h : Option Head). IsLevelled m.course.lines (level_in h)) (sym w.head) level in
+    let there : IsLevelled m.course.lines a.level = subst (λ (h : Option AnswerHead). IsLevelled m.course.lines (level_in h)) (sym w.head) level in
     let end : end_of 0 segs ≡ 0 + length text = end_at segs 0 text whole in
     record {
       segments = segs;
@@ -292,8 +298,8 @@ found text parts e r =
     })
 
 -- the answer that was said, with this head
-abbrev pub answer_in : Head → SoFar → AnswerRecord
-answer_in h m = record {
+abbrev pub answer_in : AnswerHead → SignatureRecord → SoFar → AnswerRecord
+answer_in h signature m = record {
   role = h.role;
   flag = h.flag;
   number = h.number;
@@ -305,33 +311,41 @@ answer_in h m = record {
   quantity = m.totals.quantity;
   amount = m.totals.amount;
   deposit = m.totals.deposit;
-  signature = m.signature;
+  signature = signature;
 }
 
-head_there : (h : Option Head) → has_head h ≡ true → (head : Head) × (Some head ≡ h)
+signature_there : (s : Option SignatureRecord) → is_some s ≡ true → (signature : SignatureRecord) × (Some signature ≡ s)
+signature_there (Some signature) e = (signature, refl)
+signature_there None e = cc
+
+head_there : (h : Option AnswerHead) → has_head h ≡ true → (head : AnswerHead) × (Some head ≡ h)
 head_there (Some head) e = (head, refl)
 head_there None e = cc
 
-whole_head : (segs : List Seg) (m : Said) (place : ℕ) (fault : Option SegmentFault) → refusal_from judged m place segs fault ≡ None → has_head (said_by judged m segs).head ≡ true
-whole_head [] m place fault e = (and_both _ _ (ended_none _ place fault e).0).1
-whole_head (seg ∷ segs) m place fault e = whole_head segs (after m seg) _ fault (refused_none (reason_of m seg) seg.start _ e).1
+whole_said : (segs : List Seg) (m : Said) (place : ℕ) (fault : Option SegmentFault) → refusal_from judged m place segs fault ≡ None → (is_some (said_by judged m segs).course.signature ≡ true) × (has_head (said_by judged m segs).head ≡ true)
+whole_said [] m place fault e =
+    let whole = and_both _ _ (ended_none _ place fault e).0 in
+    ((and_both _ _ whole.0).1, whole.1)
+whole_said (seg ∷ segs) m place fault e = whole_said segs (after m seg) _ fault (refused_none (reason_of m seg) seg.start _ e).1
 
 -- What is not refused is some answer.
 pub some_answer : (text : List ℕ) → refusal_from judged nothing 0 (cut_of text).segments (cut_of text).fault ≡ None → (a : AnswerRecord) × (s : Seal) × Is895 a s text
 some_answer text e =
     let segs = (cut_of text).segments in
     let m = (said_by judged nothing segs).course in
-    let h = head_there (said_by judged nothing segs).head (whole_head segs nothing 0 (cut_of text).fault e) in
+    let whole = whole_said segs nothing 0 (cut_of text).fault e in
+    let h = head_there (said_by judged nothing segs).head whole.1 in
+    let g = signature_there m.signature whole.0 in
     let held = said_holds text e in
     let seal : Seal = record { control = m.control; check = m.integrity } in (
-      answer_in h.0 m,
+      answer_in h.0 g.0 m,
       seal,
-      found_so text (answer_in h.0 m) seal e (record {
+      found_so text (answer_in h.0 g.0 m) seal e (record {
         done = refl;
         head = h.1;
         read = (held.0, refl, sym held.1, refl);
         totals = refl;
-        signature = refl;
+        signature = g.1;
         check = refl;
       }),
     )
@@ -351,7 +365,7 @@ pub record IsReadSo (m : Said) (a : AnswerRecord) (s : Seal) (place : ℕ) (segs
   pub lines : a.lines ≡ (said_by judged m segs).course.lines
   pub control : s.control ≡ (said_by judged m segs).course.control
   pub totals : (shared_of a s).totals ≡ (said_by judged m segs).course.totals
-  pub signature : a.signature ≡ (said_by judged m segs).course.signature
+  pub signature : Some a.signature ≡ (said_by judged m segs).course.signature
   pub check : s.check ≡ (said_by judged m segs).course.integrity
 
 at_end : (from : Phase) (m : Said) (a : AnswerRecord) (s : Seal) (before : List Seg) → Rest895 from m a s before [] → IsWhole from m a s
@@ -382,7 +396,7 @@ unfolding kept kept_by
 only_rest [] m a s before place sound level at short r =
     let w = at_end m.course.phase m a s before r in
     record {
-      none = none_ended _ place (both_and _ _ w.done (some_head m.head (head_of a) w.head));
+      none = none_ended _ place (both_and _ _ (both_and _ _ w.done (some_signed _ _ w.signature)) (some_head m.head (head_of a) w.head));
       head = w.head;
       references = w.read.0;
       lines = w.read.1;

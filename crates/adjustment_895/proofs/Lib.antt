@@ -3,3 +3,4 @@ pub mod Moves
 pub mod FoundOnly
 pub mod OneAnswer
 pub mod WrittenBack
+pub mod Made

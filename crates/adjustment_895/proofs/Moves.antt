@@ -29,12 +29,12 @@ use Rattle.adjustment_895.specs.AnswerRecord.{AnswerRecord}
 use Rattle.adjustment_895.specs.HeadTable.{head_fault, head_in, is_past_levels}
 use Rattle.adjustment_895.specs.Grammar.{IsHead, IsLevelled, FromStart, FromHead, notes, shared_of}
 use Rattle.adjustment_895.specs.Said.{Said, after, level_in, level_reason, own_reason, kept_by}
-use Rattle.adjustment_895.specs.declared.head.Head.{Head}
+use Rattle.adjustment_895.specs.declared.head.AnswerHead.{AnswerHead}
 use Rattle.adjustment_895.proofs.Levels.{small_levels}
 use Rattle.dsd_values.specs.Reading.{level_of}
 
 -- the head of an answer
-abbrev pub head_of : AnswerRecord → Head
+abbrev pub head_of : AnswerRecord → AnswerHead
 head_of a = record { role = a.role; flag = a.flag; number = a.number; check = a.check; level = a.level; receiver_number = a.receiver_number }
 
 pub counted : (m : Said) (seg : Seg) → (after m seg).course.count ≡ m.course.count + 1
@@ -43,7 +43,7 @@ counted m seg = refl
 
 -- ---- heads
 
-abbrev answer_with : Head → AnswerRecord
+abbrev answer_with : AnswerHead → AnswerRecord
 answer_with h = record {
   role = h.role;
   flag = h.flag;
@@ -59,7 +59,7 @@ answer_with h = record {
   signature = record { mark = []; name = [] };
 }
 
-abbrev IsHeadOf : Head → Seg → Type 0
+abbrev IsHeadOf : AnswerHead → Seg → Type 0
 IsHeadOf h seg = IsHead (answer_with h) seg
 
 head_right : (seg : Seg) → head_fault seg ≡ None → IsHeadOf (head_in seg) seg
@@ -80,9 +80,9 @@ head_right seg e1 =
       ends = are_empty _ _ a6.1;
     }
 
-head_is : (a : AnswerRecord) (h : Head) (seg : Seg) → head_of a ≡ h → IsHeadOf h seg → IsHead a seg
+head_is : (a : AnswerRecord) (h : AnswerHead) (seg : Seg) → head_of a ≡ h → IsHeadOf h seg → IsHead a seg
 head_is a h seg same i =
-    let at : IsHeadOf (head_of a) seg = subst (λ (u : Head). IsHeadOf u seg) (sym same) i in
+    let at : IsHeadOf (head_of a) seg = subst (λ (u : AnswerHead). IsHeadOf u seg) (sym same) i in
     record { role = at.role; flag = at.flag; number = at.number; check = at.check; level = at.level; receiver_number = at.receiver_number; ends = at.ends }
 
 right_head : (a : AnswerRecord) (seg : Seg) → IsHead a seg → head_fault seg ≡ None
@@ -90,10 +90,10 @@ right_head a seg i =
     none_then _ _ (ok_at 1 _ _ i.role) (none_then _ _ (ok_at 2 _ _ i.flag) (none_then _ _ (ok_at 3 _ _ i.number)
     (none_then _ _ (ok_at 4 _ _ i.check) (none_then _ _ (ok_at 5 _ _ i.level) (none_then _ _ (ok_at 6 _ _ i.receiver_number) (empty_ones _ _ i.ends))))))
 
-abbrev head_with : Role → Flag → List ℕ → ℕ → ℕ → List ℕ → Head
+abbrev head_with : Role → Flag → List ℕ → ℕ → ℕ → List ℕ → AnswerHead
 head_with role flag number check level receiver_number = record { role = role; flag = flag; number = number; check = check; level = level; receiver_number = receiver_number }
 
-same_head : (a b : Head) → a.role ≡ b.role → a.flag ≡ b.flag → a.number ≡ b.number → a.check ≡ b.check → a.level ≡ b.level → a.receiver_number ≡ b.receiver_number → a ≡ b
+same_head : (a b : AnswerHead) → a.role ≡ b.role → a.flag ≡ b.flag → a.number ≡ b.number → a.check ≡ b.check → a.level ≡ b.level → a.receiver_number ≡ b.receiver_number → a ≡ b
 same_head a b e1 e2 e3 e4 e5 e6 =
     ap (λ (v : Role). head_with v a.flag a.number a.check a.level a.receiver_number) e1
     ∙ ap (λ (v : Flag). head_with b.role v a.number a.check a.level a.receiver_number) e2
@@ -212,7 +212,7 @@ module _ (m : Said) (a : AnswerRecord) (s : Seal) (before : List Seg) (seg : Seg
     head_on : Rest895 phases.Head m a s before (seg ∷ segs) → Goes phases.Head kinds.Head
     unfolding kept kept_by
     head_on (texts, lines, extras, left, (k, i, rest)) =
-        (k, none_then _ _ (when_not _ _ (not_past (element_of seg 5) a.level i.level)) (value_none _ (right_head a seg i)), (ap (λ (u : Head). Some u) (head_said a seg i), (texts, lines, extras, left, rest)))
+        (k, none_then _ _ (when_not _ _ (not_past (element_of seg 5) a.level i.level)) (value_none _ (right_head a seg i)), (ap (λ (u : AnswerHead). Some u) (head_said a seg i), (texts, lines, extras, left, rest)))
 
     -- an adjustment has a level
     some_level : (lines : List Line) (line : Line) (more : List Line) → lines ++ line ∷ more ≡ a.lines → 0 < a.level

@@ -1,8 +1,11 @@
 -- The answer that is read is the one that its text spells.
-use Rattle.std.proofs.Common.{◌≡◌, ℕ, List, Result, Err, Some, None, Option, refl, sym, ap, ◌∙◌, subst}
+use Rattle.std.proofs.Common.{◌≡◌, ℕ, List, [], Result, Err, Some, None, Option, refl, sym, ap, ◌∙◌, subst}
 use Rattle.dsd_values.specs.declared.line.Line.{Line}
-use Rattle.dsd_values.specs.declared.signature.Signature.{Signature}
+use Rattle.dsd_values.specs.SignatureRecord.{SignatureRecord}
+use Rattle.segments.specs.declared.kind.Form.TheVariants as forms
+use Rattle.segments.proofs.Making.{set_few}
 use Rattle.segments.proofs.Whole.{long_ones}
+use Rattle.segments.proofs.Small.{same_some}
 use Rattle.segments.specs.SegmentCut.{cut_of}
 use Rattle.segments.specs.Refusal.{Answers, Refusal, refusal_from, said_by}
 use Rattle.segments.specs.declared.segment_fault.SegmentFault.{SegmentFault}
@@ -11,17 +14,17 @@ use Rattle.segments.specs.declared.set_fault.SetFault.TheVariants as errors
 use Rattle.segments.specs.declared.seal.Seal.{Seal}
 use Rattle.segments.specs.declared.stated.StatedTotals.{StatedTotals}
 use Rattle.adjustment_895.specs.AnswerRecord.{AnswerRecord}
-use Rattle.adjustment_895.specs.Grammar.{notes}
+use Rattle.adjustment_895.specs.Grammar.{IsHead, notes, shared_of}
 use Rattle.adjustment_895.specs.AnswerText.{Is895, IsAnswer}
 use Rattle.adjustment_895.specs.Said.{nothing}
 use Rattle.adjustment_895.specs.FirstRefusal.{judged, refusal_of}
 use Rattle.adjustment_895.specs.ReadParts.{IsReadFrom, answer_of, first_note, seal_of}
-use Rattle.adjustment_895.specs.declared.head.Head.{Head}
+use Rattle.adjustment_895.specs.declared.head.AnswerHead.{AnswerHead}
 use Rattle.adjustment_895.specs.declared.parts.Parts.{Parts}
 use Rattle.adjustment_895.proofs.Moves.{head_of}
 use Rattle.adjustment_895.proofs.FoundOnly.{found, only}
 
-abbrev answer_with : Head → Option (List ℕ) → List Line → StatedTotals → Signature → AnswerRecord
+abbrev answer_with : AnswerHead → Option (List ℕ) → List Line → StatedTotals → SignatureRecord → AnswerRecord
 answer_with h note lines totals signature = record {
   role = h.role;
   flag = h.flag;
@@ -42,11 +45,11 @@ totals_of a = record { quantity = a.quantity; amount = a.amount; deposit = a.dep
 
 same_answer : (a b : AnswerRecord) → head_of a ≡ head_of b → a.note ≡ b.note → a.lines ≡ b.lines → totals_of a ≡ totals_of b → a.signature ≡ b.signature → a ≡ b
 same_answer a b h n l t g =
-    ap (λ (u : Head). answer_with u a.note a.lines (totals_of a) a.signature) h
+    ap (λ (u : AnswerHead). answer_with u a.note a.lines (totals_of a) a.signature) h
     ∙ ap (λ (u : Option (List ℕ)). answer_with (head_of b) u a.lines (totals_of a) a.signature) n
     ∙ ap (λ (u : List Line). answer_with (head_of b) b.note u (totals_of a) a.signature) l
     ∙ ap (λ (u : StatedTotals). answer_with (head_of b) b.note b.lines u a.signature) t
-    ∙ ap (λ (u : Signature). answer_with (head_of b) b.note b.lines (totals_of b) u) g
+    ∙ ap (λ (u : SignatureRecord). answer_with (head_of b) b.note b.lines (totals_of b) u) g
 
 same_seal : (a b : Seal) → a.control ≡ b.control → a.check ≡ b.check → a ≡ b
 same_seal a b c e = ap (λ (v : List ℕ). record { control = v; check = a.check }) c ∙ ap (λ (v : ℕ). record { control = b.control; check = v }) e
@@ -69,7 +72,7 @@ same_read text parts a s is r =
     let note : first_note parts.closed.references.items ≡ a.note = ap first_note (r.closed.references ∙ sym o.references) ∙ note_is a.note in
     let totals : parts.closed.totals ≡ totals_of a = r.closed.totals ∙ sym o.totals in
     record {
-      answer = same_answer (answer_of parts) a head note (r.closed.lines ∙ sym o.lines) totals (r.closed.signature ∙ sym o.signature);
+      answer = same_answer (answer_of parts) a head note (r.closed.lines ∙ sym o.lines) totals (same_some _ _ (r.closed.signature ∙ sym o.signature));
       seal = same_seal (seal_of parts) s (r.closed.control ∙ sym o.control) (r.closed.check ∙ sym o.check);
     }
 
@@ -96,6 +99,7 @@ is_answer text a s is = record {
   shape = is.shape;
   sound = is.sound;
   levelled = is.levelled;
+  few = set_few forms.Answer s.control (IsHead a) (notes a.note) a.lines [] (shared_of a s) is.segments text is.shape is.spelled is.short;
 }
 
 pub spelled : (text : List ℕ) (parts : Parts) → refusal_of text ≡ None → IsReadFrom (said_by judged nothing (cut_of text).segments) parts → IsAnswer (answer_of parts)
@@ -109,7 +113,7 @@ one text a b s t is also =
     let some : Some (head_of a) ≡ Some (head_of b) = o.head ∙ sym p.head in
     let head : head_of a ≡ head_of b = cc (some) in
     let note : a.note ≡ b.note = sym (note_is a.note) ∙ ap first_note (o.references ∙ sym p.references) ∙ note_is b.note in (
-      same_answer a b head note (o.lines ∙ sym p.lines) (o.totals ∙ sym p.totals) (o.signature ∙ sym p.signature),
+      same_answer a b head note (o.lines ∙ sym p.lines) (o.totals ∙ sym p.totals) (same_some _ _ (o.signature ∙ sym p.signature)),
       same_seal s t (o.control ∙ sym p.control) (o.check ∙ sym p.check),
     )
 

@@ -1,5 +1,5 @@
 -- The rows that are written of an answer are a text of that answer.
-use Rattle.std.proofs.Common.{◌≡◌, ℕ, ◌^◌, ◌<◌, ◌≤◌, inl, inr, List, [], ◌∷◌, length, codes, None, Some, Option, Result, Ok, refl, ap, subst, arith}
+use Rattle.std.proofs.Common.{◌≡◌, ℕ, ◌^◌, ◌<◌, ◌≤◌, inl, inr, List, [], ◌∷◌, length, codes, None, Some, Option, Ok, refl, ap, subst, arith}
 use Rattle.std.specs.Prelude.{MatchOption}
 use Rattle.std.specs.Char.{digit_value}
 use Rattle.std.specs.List.{All}
@@ -8,12 +8,10 @@ use Rattle.std.proofs.lemmas.Bool.Decides.{nat_tests}
 use Rattle.std.proofs.lemmas.Int.Digits.{digits_value-lt}
 use Rattle.std.proofs.lemmas.List.Elements.{All-head, All-tail}
 use Rattle.dsd_pricing.specs.WholeText.{unless_too_long}
-use Rattle.dsd_pricing.specs.declared.fault.WriteFault.{WriteFault}
-use Rattle.dsd_pricing.specs.declared.fault.WriteFault.TheVariants.{Memory}
 use Rattle.dsd_pricing.proofs.WholeTexts.{text_is, whole_is}
-use Rattle.dsd_values.specs.Answers.{UnlessMemory}
 use Rattle.dsd_values.specs.Reading.{check_of, delivery_number_of, flag_of, level_of, role_of, word_of}
-use Rattle.dsd_values.specs.Spelling.{IsCheckDigit, role_text}
+use Rattle.dsd_values.specs.Spelling.{IsCheckDigit, flag_text, role_text}
+use Rattle.dsd_values.specs.Writing.{check_text, number_text}
 use Rattle.dsd_values.specs.declared.limits.TheConstants.{SET_BYTES}
 use Rattle.dsd_values.specs.declared.role.Role.{Role}
 use Rattle.dsd_values.specs.declared.role.Role.TheVariants.{Receiver, Supplier}
@@ -23,12 +21,16 @@ use Rattle.segments.specs.Views.{Seg, element_of}
 use Rattle.segments.specs.RowsWritten.{first_long}
 use Rattle.segments.specs.SegmentSpelling.{IsSegment}
 use Rattle.segments.specs.SegmentWriting.{segments_of, text_of}
-use Rattle.segments.specs.SetWriting.{start_row}
+use Rattle.segments.specs.SetWriting.{control_text, start_row}
 use Rattle.segments.specs.declared.kind.Form.TheVariants as forms
+use Rattle.segments.specs.declared.texts.TheConstants.{MOST_CONTROL_NUMBER}
 use Rattle.segments.proofs.PartedTexts.{no_tail}
 use Rattle.segments.proofs.RowsSay.{SaysAgain, no_longer, reads_at, row_segment}
-use Rattle.segments.proofs.RowsShape.{IsLong, IsSealable}
+use Rattle.segments.proofs.RowsShape.{IsSealable}
 use Rattle.segments.proofs.SetRows.{AreAsked, are_asked, are_long, are_sealed, set_reshaped}
+use Rattle.segments.proofs.Tells.{IsLong}
+use Rattle.segments.proofs.WrittenSets.{written_set}
+use Rattle.segments.specs.SetUnits.{IsSetText}
 use Rattle.adjustment_895.specs.AnswerRecord.{AnswerRecord}
 use Rattle.adjustment_895.specs.AnswerText.{Is895, IsAnswer}
 use Rattle.adjustment_895.specs.Grammar.{AreSegments, IsHead, notes, shared_of}
@@ -36,7 +38,7 @@ use Rattle.adjustment_895.specs.WrittenText.{head_elements, head_row, later_rows
 
 -- ---- the head
 
-role_again : (role : Role) → IsReadAs role_of role (role_text role)
+pub role_again : (role : Role) → IsReadAs role_of role (role_text role)
 role_again Supplier = record { read = refl; element = refl }
 role_again Receiver = record { read = refl; element = refl }
 
@@ -56,27 +58,39 @@ check_small text check e =
     let four : 16 ^ length text ≡ 16 ^ 4 = ap (λ (n : ℕ). 16 ^ n) s.four in
     omega (arith, s.value, under, four)
 
+-- what is written of each element of a head is read as its field
+pub record HeadElements (answer : AnswerRecord) : Type 0 where
+  pub role : IsReadAs role_of answer.role (role_text answer.role)
+  pub flag : IsReadAs flag_of answer.flag (flag_text answer.flag)
+  pub number : IsReadAs delivery_number_of answer.number answer.number
+  pub check : IsReadAs check_of answer.check (check_text answer.check)
+  pub level : IsReadAs level_of answer.level (number_text answer.level)
+  pub receiver_number : IsReadAs word_of answer.receiver_number answer.receiver_number
+
+pub head_written : (answer : AnswerRecord) → HeadElements answer → SaysAgain (IsHead answer) (head_row answer)
+head_written answer are = record {
+  says = λ place. record {
+    role = reads_at role_of answer.role place 1 (head_row answer) are.role;
+    flag = reads_at flag_of answer.flag place 2 (head_row answer) are.flag;
+    number = reads_at delivery_number_of answer.number place 3 (head_row answer) are.number;
+    check = reads_at check_of answer.check place 4 (head_row answer) are.check;
+    level = reads_at level_of answer.level place 5 (head_row answer) are.level;
+    receiver_number = reads_at word_of answer.receiver_number place 6 (head_row answer) are.receiver_number;
+    ends = no_longer place 6 (head_row answer) refl;
+  };
+  segment = row_segment (codes "G87") (head_elements answer) [] 7 refl
+      (are.role.element, (are.flag.element, (are.number.element, (are.check.element, (are.level.element, (are.receiver_number.element, tt)))))) (omega arith) (no_tail 7 (omega arith));
+}
+
 head_again : (answer : AnswerRecord) (seg : Seg) → IsLong seg → IsHead answer seg → SaysAgain (IsHead answer) (head_row answer)
-head_again answer seg s is =
-    let role = role_again answer.role in
-    let flag = flag_again answer.flag in
-    let number = delivery_number_again (element_of seg 3) answer.number is.number in
-    let check = check_again answer.check (check_small (element_of seg 4) answer.check is.check) in
-    let level = number_again 0 9 answer.level (element_of seg 5) (omega arith) is.level in
-    let receiver_number = word_again (element_of seg 6) answer.receiver_number is.receiver_number in
-    record {
-      says = λ place. record {
-        role = reads_at role_of answer.role place 1 (head_row answer) role;
-        flag = reads_at flag_of answer.flag place 2 (head_row answer) flag;
-        number = reads_at delivery_number_of answer.number place 3 (head_row answer) number;
-        check = reads_at check_of answer.check place 4 (head_row answer) check;
-        level = reads_at level_of answer.level place 5 (head_row answer) level;
-        receiver_number = reads_at word_of answer.receiver_number place 6 (head_row answer) receiver_number;
-        ends = no_longer place 6 (head_row answer) refl;
-      };
-      segment = row_segment (codes "G87") (head_elements answer) [] 7 refl
-          (role.element, (flag.element, (number.element, (check.element, (level.element, (receiver_number.element, tt)))))) (omega arith) (no_tail 7 (omega arith));
-    }
+head_again answer seg s is = head_written answer (record {
+  role = role_again answer.role;
+  flag = flag_again answer.flag;
+  number = delivery_number_again (element_of seg 3) answer.number is.number;
+  check = check_again answer.check (check_small (element_of seg 4) answer.check is.check);
+  level = number_again 0 9 answer.level (element_of seg 5) (omega arith) is.level;
+  receiver_number = word_again (element_of seg 6) answer.receiver_number is.receiver_number;
+})
 
 -- ---- all rows
 
@@ -90,16 +104,16 @@ record AreRows (answer : AnswerRecord) (control : ℕ) : Type 0 where
   segments : All IsSegment (opened_rows answer control)
   shape : IsSealable (opened_rows answer control) control → AreSegments answer (seal_of answer control) (segments_of 0 (rows_of answer control))
 
-rows_known : (answer : AnswerRecord) (control : ℕ) → control ≤ 999_999_999 → IsAnswer answer → AreRows answer control
+rows_known : (answer : AnswerRecord) (control : ℕ) → control ≤ MOST_CONTROL_NUMBER → IsAnswer answer → AreRows answer control
 rows_known answer control small is =
     let reshaped = set_reshaped (opened_rows answer control) forms.Answer control (IsHead answer) (head_row answer) refl (head_again answer) small (notes answer.note) answer.lines [] (shared_of answer is.seal) in
     let known = reshaped [] is.segments [] is.shape (are_long is.segments is.spelled) refl in
     record { segments = known.segments; shape = known.shape }
 
-pub asked : (answer : AnswerRecord) (control : ℕ) → control ≤ 999_999_999 → IsAnswer answer → AreAsked (start_row forms.Answer control) (head_row answer) (note_rows answer) (later_rows answer)
+pub asked : (answer : AnswerRecord) (control : ℕ) → control ≤ MOST_CONTROL_NUMBER → IsAnswer answer → AreAsked (start_row forms.Answer control) (head_row answer) (note_rows answer) (later_rows answer)
 asked answer control small is = are_asked (start_row forms.Answer control) (head_row answer) (note_rows answer) (later_rows answer) (rows_known answer control small is).segments
 
-text_spelled : (answer : AnswerRecord) (control : ℕ) → control ≤ 999_999_999 → IsAnswer answer → first_long (rows_of answer control) ≡ None → length (text_of (rows_of answer control)) ≤ SET_BYTES → Is895 answer (seal_of answer control) (text_of (rows_of answer control))
+text_spelled : (answer : AnswerRecord) (control : ℕ) → control ≤ MOST_CONTROL_NUMBER → IsAnswer answer → first_long (rows_of answer control) ≡ None → length (text_of (rows_of answer control)) ≤ SET_BYTES → Is895 answer (seal_of answer control) (text_of (rows_of answer control))
 text_spelled answer control small is none short =
     let known = rows_known answer control small is in
     let all = are_sealed (opened_rows answer control) control small known.segments none short in
@@ -112,18 +126,36 @@ text_spelled answer control small is none short =
       short = short;
     }
 
+-- and it is the text of a set, in whole units
+text_set : (answer : AnswerRecord) (control : ℕ) → control ≤ MOST_CONTROL_NUMBER → IsAnswer answer → first_long (rows_of answer control) ≡ None → length (text_of (rows_of answer control)) ≤ SET_BYTES → IsSetText (text_of (rows_of answer control))
+text_set answer control small is none short =
+    let known = rows_known answer control small is in
+    let all = are_sealed (opened_rows answer control) control small known.segments none short in
+    written_set forms.Answer (control_text control) (IsHead answer) (notes answer.note) answer.lines [] (shared_of answer (seal_of answer control)) (segments_of 0 (rows_of answer control)) (text_of (rows_of answer control))
+    (known.shape all.sealable) all.written all.spelled
+
 -- ---- what is answered
 
--- what is written of an answer is read as that answer
-pub written_back : (answer : AnswerRecord) (control : ℕ) (text : List ℕ) → control ≤ 999_999_999 → IsAnswer answer → written_of answer control ≡ Ok text → Is895 answer (seal_of answer control) text
+-- a text that is written of an answer spells it, and is the text of a set
+pub record IsRead (answer : AnswerRecord) (control : ℕ) (text : List ℕ) : Type 0 where
+  pub spelled : Is895 answer (seal_of answer control) text
+  pub set : IsSetText text
+
+read_as : (answer : AnswerRecord) (control : ℕ) (text : List ℕ) → control ≤ MOST_CONTROL_NUMBER → IsAnswer answer → first_long (rows_of answer control) ≡ None → text_of (rows_of answer control) ≡ text → length text ≤ SET_BYTES → IsRead answer control text
+read_as answer control text small is none same short =
+    let few : length (text_of (rows_of answer control)) ≤ SET_BYTES = omega (arith, ap length same) in
+    record {
+      spelled = subst (Is895 answer (seal_of answer control)) same (text_spelled answer control small is none few);
+      set = subst IsSetText same (text_set answer control small is none few);
+    }
+
+pub written_back : (answer : AnswerRecord) (control : ℕ) (text : List ℕ) → control ≤ MOST_CONTROL_NUMBER → IsAnswer answer → written_of answer control ≡ Ok text → IsRead answer control text
 written_back answer control text small is e =
     let all = whole_is (first_long (rows_of answer control)) (text_of (rows_of answer control)) text e in
-    let short : length (text_of (rows_of answer control)) ≤ SET_BYTES = omega (arith, all.short, ap length all.same) in
-    subst (Is895 answer (seal_of answer control)) all.same (text_spelled answer control small is all.none short)
+    read_as answer control text small is all.none all.same all.short
 
-pub answer_spelled : (answer : AnswerRecord) (control : ℕ) (text : List ℕ) (result : Result (List ℕ) WriteFault) → control ≤ 999_999_999 → IsAnswer answer → result ≡ Ok text
-    → UnlessMemory Memory result (unless_too_long (first_long (rows_of answer control)) (text_of (rows_of answer control))) → length text ≤ SET_BYTES → Is895 answer (seal_of answer control) text
-answer_spelled answer control text result small is e h short =
-    let all = text_is (first_long (rows_of answer control)) (text_of (rows_of answer control)) text result e h in
-    let few : length (text_of (rows_of answer control)) ≤ SET_BYTES = omega (arith, ap length all.1) in
-    subst (Is895 answer (seal_of answer control)) all.1 (text_spelled answer control small is all.0 few)
+pub answer_read : (answer : AnswerRecord) (control : ℕ) (text : List ℕ) → control ≤ MOST_CONTROL_NUMBER → IsAnswer answer
+    → unless_too_long (first_long (rows_of answer control)) (text_of (rows_of answer control)) ≡ Ok text → length text ≤ SET_BYTES → IsRead answer control text
+answer_read answer control text small is e short =
+    let all = text_is (first_long (rows_of answer control)) (text_of (rows_of answer control)) text e in
+    read_as answer control text small is all.0 all.1 short

@@ -3,7 +3,7 @@ use Rattle.std.specs.Prelude.{ℕ, List, Option}
 use Rattle.dsd_values.specs.declared.flag.Flag.{Flag}
 use Rattle.dsd_values.specs.declared.line.Line.{Line}
 use Rattle.dsd_values.specs.declared.role.Role.{Role}
-use Rattle.dsd_values.specs.declared.signature.Signature.{Signature}
+use Rattle.dsd_values.specs.SignatureRecord.{SignatureRecord}
 
 pub record AnswerRecord : Type 0 where
   pub role : Role
@@ -18,4 +18,4 @@ pub record AnswerRecord : Type 0 where
   pub quantity : ℕ
   pub amount : ℕ
   pub deposit : Option ℕ
-  pub signature : Signature
+  pub signature : SignatureRecord

@@ -4,6 +4,7 @@ use Rattle.dsd_values.specs.declared.limits.TheConstants.{SET_BYTES}
 use Rattle.segments.specs.Views.{Seg}
 use Rattle.segments.specs.SegmentSpelling.{IsLongSegment, SpellsSegments}
 use Rattle.segments.specs.Grammar.{IsSound}
+use Rattle.segments.specs.SoundLines.{HaveFew}
 use Rattle.segments.specs.declared.seal.Seal.{Seal}
 use Rattle.adjustment_895.specs.AnswerRecord.{AnswerRecord}
 use Rattle.adjustment_895.specs.Grammar.{AreSegments, IsLevelled}
@@ -18,7 +19,8 @@ pub record Is895 (answer : AnswerRecord) (seal : Seal) (text : List ℕ) : Type 
   pub levelled : IsLevelled answer.lines answer.level
   pub short : length text ≤ SET_BYTES
 
--- Some segments say the answer, however long they are: the answers that a text spells, lengths aside.
+-- Some segments say the answer, however long they are: the answers that a text spells, lengths aside. No more extras stand behind a
+-- line than a set has bytes.
 pub record IsAnswer (answer : AnswerRecord) : Type 0 where
   pub seal : Seal
   pub segments : List Seg
@@ -26,3 +28,4 @@ pub record IsAnswer (answer : AnswerRecord) : Type 0 where
   pub shape : AreSegments answer seal segments
   pub sound : IsSound answer.lines []
   pub levelled : IsLevelled answer.lines answer.level
+  pub few : HaveFew answer.lines []

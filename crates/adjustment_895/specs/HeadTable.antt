@@ -6,7 +6,7 @@ use Rattle.dsd_values.specs.declared.flag.Flag.TheVariants as flags
 use Rattle.dsd_values.specs.declared.role.Role.TheVariants as roles
 use Rattle.segments.specs.Views.{Seg, element_of}
 use Rattle.segments.specs.Elements.{ElementFault, ◌or_else◌, at_element, said, no_more}
-use Rattle.adjustment_895.specs.declared.head.Head.{Head}
+use Rattle.adjustment_895.specs.declared.head.AnswerHead.{AnswerHead}
 
 -- the first element that is refused
 abbrev pub head_fault : Seg → Option ElementFault
@@ -20,7 +20,7 @@ head_fault seg =
     or_else no_more 6 seg
 
 -- what a head whose elements are right says
-abbrev pub head_in : Seg → Head
+abbrev pub head_in : Seg → AnswerHead
 head_in seg = record {
   role = said roles.Supplier (role_of (element_of seg 1));
   flag = said flags.Debit (flag_of (element_of seg 2));

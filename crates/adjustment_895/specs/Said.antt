@@ -3,7 +3,8 @@ use Rattle.std.specs.Prelude.{ℕ, ◌+◌, Bool, true, false, ◌&&◌, ◌==�
 use Rattle.block_check.specs.Crc16.{crc_from}
 use Rattle.segments.specs.Views.{Seg, element_of}
 use Rattle.segments.specs.Elements.{◌or_else◌}
-use Rattle.segments.specs.Kinds.{kind_of, next_phase, is_done}
+use Rattle.segments.specs.Closing.{is_closed}
+use Rattle.segments.specs.Kinds.{kind_of, next_phase}
 use Rattle.segments.specs.SoFar.{SoFar, kept, phase_in}
 use Rattle.segments.specs.SoFar as course
 use Rattle.segments.specs.Reasons.{when, as_value, admission, course_reason}
@@ -14,23 +15,23 @@ use Rattle.segments.specs.declared.phase.Phase.{Phase}
 use Rattle.segments.specs.declared.set_fault.SetReason.{SetReason}
 use Rattle.segments.specs.declared.set_fault.SetReason.TheVariants as reasons
 use Rattle.adjustment_895.specs.HeadTable.{head_fault, head_in, is_past_levels}
-use Rattle.adjustment_895.specs.declared.head.Head.{Head}
+use Rattle.adjustment_895.specs.declared.head.AnswerHead.{AnswerHead}
 
 -- what both sets say, and the head where it has come
 pub record Said : Type 0 where
   pub course : SoFar
-  pub head : Option Head
+  pub head : Option AnswerHead
 
 abbrev pub nothing : Said
 nothing = record { course = course.nothing; head = None }
 
 -- the level that the head states
-abbrev pub level_in : Option Head → ℕ
+abbrev pub level_in : Option AnswerHead → ℕ
 level_in (Some head) = head.level
 level_in None = 0
 
 -- An adjustment has a level of its own, from 1 on: with level 0 no loop may stand.
-abbrev pub level_reason : Kind → Option Head → Option SetReason
+abbrev pub level_reason : Kind → Option AnswerHead → Option SetReason
 level_reason kinds.LoopStart head = when (level_in head == 0) reasons.Order
 level_reason _ head = None
 
@@ -49,7 +50,7 @@ reason_of m seg =
     or_else admission forms.Answer m.course.phase (kind_of forms.Answer seg) seg
     or_else own_reason m seg (kind_of forms.Answer seg)
 
-abbrev pub head_after : Kind → Head → Option Head → Option Head
+abbrev pub head_after : Kind → AnswerHead → Option AnswerHead → Option AnswerHead
 head_after kinds.Head new old = Some new
 head_after _ new old = old
 
@@ -63,10 +64,10 @@ kept_by m seg kind phase count check = record {
 abbrev pub after : Said → Seg → Said
 after m seg = kept_by m seg (kind_of forms.Answer seg) (phase_in (next_phase m.course.phase (kind_of forms.Answer seg) forms.Answer)) (m.course.count + 1) (crc_from m.course.check seg.bytes)
 
-abbrev pub has_head : Option Head → Bool
+abbrev pub has_head : Option AnswerHead → Bool
 has_head (Some head) = true
 has_head None = false
 
--- The trailer has come. A head has then come too, and is asked for because it may be none.
+-- The trailer has come. A head and a signature have then come too, and are asked for because they may be none.
 abbrev pub is_whole : Said → Bool
-is_whole m = is_done m.course.phase && has_head m.head
+is_whole m = is_closed m.course && has_head m.head

@@ -1,13 +1,18 @@
 //! An answer to a delivery.
 
-ghost use Rattle.std.specs.Prelude.{◌≡◌, IfOk, None, Some, MatchOption};
-ghost use Rattle.adjustment_895.specs.Grammar.{has_none, notes as texts_of};
+ghost use Rattle.std.specs.Prelude.{◌≡◌, ◌≤◌, IfOk, None, Some, MatchOption, length};
+ghost use Rattle.dsd_values.specs.declared.limits.TheConstants.{MOST_LINES};
+ghost use Rattle.dsd_values.specs.declared.quantity.TheConstants.{MOST_TOTAL_QUANTITY};
+ghost use Rattle.segments.specs.SoundLines.{AreSoundLines};
+ghost use Rattle.adjustment_895.specs.Grammar.{IsLevelled, has_none, notes as texts_of};
+ghost use Rattle.adjustment_895.specs.Making.{answer_made};
 ghost use Rattle.adjustment_895.specs.ReadParts.{answer_of, first_note as first_of, seal_of};
 ghost use Rattle.adjustment_895.specs.AnswerText.{IsAnswer};
 ghost use Rattle.adjustment_895.specs.WrittenText.{stated_totals};
 
-use crate::head::Head;
+use crate::head::AnswerHead;
 use crate::parts::Parts;
+use dsd_pricing::Totals;
 use dsd_values::{
     Cents, Check, DeliveryNumber, Flag, Kept, Level, Lines, Memory, Role, Signature, Word,
 };
@@ -18,7 +23,7 @@ use std::marker::Model;
 /// An acknowledgement, or an adjustment with its lines: a value that some text of a set 895 spells, however long its segments are.
 #[derive(Debug, Drop)]
 pub struct Answer895 {
-    head: Head,
+    head: AnswerHead,
     note: Option<Kept>,
     lines: Lines,
     totals: StatedTotals,
@@ -70,6 +75,35 @@ fn first_note(texts: Vec<Kept>) -> Option<Kept>
 }
 
 impl Answer895 {
+    /// The answer of this head, these lines and totals, and this signature. It has no note and no deposit.
+    pub fn new(head: AnswerHead, lines: Lines, totals: Totals, signature: Signature) -> Answer895
+        requires sound { AreSoundLines lines }
+        requires few { length lines ≤ MOST_LINES }
+        requires levelled { IsLevelled lines head.level }
+        requires quantity { totals.quantity ≤ MOST_TOTAL_QUANTITY }
+        ensures { result ≡ answer_made head lines totals signature }
+    {
+        // What the types keep is known once their values are lent.
+        let _ = head.number.as_slice();
+        let _ = head.check.get();
+        let _ = head.level.get();
+        let _ = head.receiver_number.as_slice();
+        let _ = totals.amount.get();
+        let _ = signature.mark();
+        let Totals { quantity, amount } = totals;
+        Answer895 {
+            head,
+            note: None,
+            lines,
+            totals: StatedTotals {
+                quantity,
+                amount,
+                deposit: None,
+            },
+            signature,
+        }
+    }
+
     /// Who signs.
     pub fn role(&self) -> Role
         ensures { result ≡ self.now.role }

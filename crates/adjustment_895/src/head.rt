@@ -16,22 +16,25 @@ use segments::{ItemFault, Segment, check_at, end_of_elements, in_element, word_a
 
 /// What a G87 says.
 #[derive(Debug, Drop)]
-pub struct Head {
+pub struct AnswerHead {
+    /// Who signs.
     pub role: Role,
+    /// Whether the delivery is charged or credited.
     pub flag: Flag,
     pub number: DeliveryNumber,
     /// The integrity value of the set that is answered.
     pub check: Check,
+    /// Of an adjustment its own level, of an acknowledgement the accepted one.
     pub level: Level,
     pub receiver_number: Word,
 }
 
-impl Head {
+impl AnswerHead {
     /// An equal head.
-    pub fn copy(&self) -> Head
+    pub fn copy(&self) -> AnswerHead
         ensures { result ≡ self.now }
     {
-        Head {
+        AnswerHead {
             role: self.role,
             flag: self.flag,
             number: self.number.copy(),
@@ -43,7 +46,7 @@ impl Head {
 }
 
 /// The six elements of a G87.
-pub fn read_head(segment: &Segment<'_>) -> Result<Head, ItemFault>
+pub fn read_head(segment: &Segment<'_>) -> Result<AnswerHead, ItemFault>
     ensures { Reads result (head_fault segment.now) (λ head. head ≡ head_in segment.now) }
 {
     let role = role(segment, 1)?;
@@ -53,7 +56,7 @@ pub fn read_head(segment: &Segment<'_>) -> Result<Head, ItemFault>
     let level = level(segment, 5)?;
     let receiver_number = word_at(segment, 6)?;
     end_of_elements(segment, 6)?;
-    Ok(Head {
+    Ok(AnswerHead {
         role,
         flag,
         number,

@@ -12,7 +12,8 @@ mod writing_laws;
 
 pub use answer::Answer895;
 pub use from_text::read_895;
-pub use writing::write_895;
+pub use head::AnswerHead;
+pub use writing::{write_895, write_sealed_895};
 pub use writing_laws::written_is_read;
 
 #[cfg(test)]

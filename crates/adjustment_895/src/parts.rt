@@ -1,11 +1,11 @@
 //! What was read of an answer.
 
-use crate::head::Head;
+use crate::head::AnswerHead;
 use segments::Closed;
 
 /// The head, and what both sets have.
 #[derive(Drop)]
 pub struct Parts {
-    pub head: Head,
+    pub head: AnswerHead,
     pub closed: Closed,
 }

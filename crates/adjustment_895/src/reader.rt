@@ -11,7 +11,7 @@ ghost use Rattle.adjustment_895.specs.ReadParts.{IsReadFrom};
 ghost use Rattle.segments.specs.declared.kind.Form.TheVariants as forms;
 ghost use Rattle.segments.specs.declared.kind.Kind.TheVariants as kinds;
 
-use crate::head::{Head, is_past_levels, read_head};
+use crate::head::{AnswerHead, is_past_levels, read_head};
 use crate::parts::Parts;
 use dsd_values::{Memory, SET_BYTES};
 use segments::{Course, Form, Kind, Phase, Segment, SetFault, SetReason, at, refuse};
@@ -22,7 +22,7 @@ use std::marker::Model;
 #[derive(Drop)]
 pub struct Reader {
     course: Course,
-    head: Option<Head>,
+    head: Option<AnswerHead>,
 }
 
 impl Model for Reader {
@@ -104,11 +104,8 @@ impl Reader {
         ensures { Answers result (ended_at (is_whole self) place None) (IsReadFrom self) }
     {
         let Reader { course, head } = self;
-        match head {
-            Some(head) if course.phase().is_done() => Ok(Parts {
-                head,
-                closed: course.close(),
-            }),
+        match (head, course.close()) {
+            (Some(head), Some(closed)) => Ok(Parts { head, closed }),
             _ => Err(SetFault::Refused {
                 place,
                 reason: SetReason::Order,
@@ -118,7 +115,7 @@ impl Reader {
 }
 
 /// The head that a segment says. A level past the highest comes before the faults of its elements.
-fn head(segment: &Segment<'_>) -> Result<Head, SetFault>
+fn head(segment: &Segment<'_>) -> Result<AnswerHead, SetFault>
     ensures { Says result segment.now.start (head_reason segment.now) (λ head. head ≡ head_in segment.now) }
 {
     if is_past_levels(segment.element(5)) {

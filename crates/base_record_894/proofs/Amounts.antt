@@ -36,24 +36,33 @@ amount_same said computed e = ap not ((Decides-int_eq (pos said) computed).1 e)
 abbrev by_tests : Bool → Bool → ℕ → ℤ → Result Totals PriceFault
 by_tests below above quantity sum = if below then Err (Negative sum) else (if above then Err (TooLarge sum) else Ok (record { quantity = quantity; amount = unsigned_abs sum }))
 
-can_be : (below above : Bool) (quantity other amount : ℕ) (sum : ℤ) → by_tests below above quantity sum ≡ Ok (record { quantity = other; amount = amount }) → (below ≡ false) × (unsigned_abs sum ≡ amount)
-can_be true above quantity other amount sum e = cc
-can_be false true quantity other amount sum e = cc
-can_be false false quantity other amount sum e =
-    let same : record { quantity = quantity; amount = unsigned_abs sum } ≡ record { quantity = other; amount = amount } = cc (e) in
-    (refl, ap (λ (t : Totals). t.amount) same)
+can_be : (below above : Bool) (quantity : ℕ) (sum : ℤ) (totals : Totals) → by_tests below above quantity sum ≡ Ok totals → (below ≡ false) × (above ≡ false) × (totals ≡ record { quantity = quantity; amount = unsigned_abs sum })
+can_be true above quantity sum totals e = cc
+can_be false true quantity sum totals e = cc
+can_be false false quantity sum totals e = (refl, refl, cc (e))
 
-itself : (sum : ℤ) (amount : ℕ) → int_lt sum (pos 0) ≡ false → unsigned_abs sum ≡ amount → pos amount ≡ sum
-itself (pos n) amount e same = ap (λ (k : ℕ). pos k) (sym same)
+itself : (sum : ℤ) (amount : ℕ) → int_lt sum (pos 0) ≡ false → amount ≡ unsigned_abs sum → pos amount ≡ sum
+itself (pos n) amount e same = ap (λ (k : ℕ). pos k) same
 itself (negsuc n) amount e same = cc
 
-rounds : (sum : ℤ) (quantity other amount : ℕ) → totals_from quantity sum ≡ Ok (record { quantity = other; amount = amount }) → pos amount ≡ sum
-rounds sum quantity other amount e =
-    let both = can_be (int_lt sum (pos 0)) (int_lt (pos MOST_CENTS) sum) quantity other amount sum e in
-    itself sum amount both.0 both.1
+within : (sum : ℤ) → int_lt sum (pos 0) ≡ false → int_lt (pos MOST_CENTS) sum ≡ false → unsigned_abs sum ≤ MOST_CENTS
+within (pos n) below above = grind (arith, nat_tests)
+within (negsuc n) below above = cc
+
+-- rows that have a price state these totals
+pub record HaveTotals (lines : List Line) (extras : List Extra) (totals : Totals) : Type 0 where
+  pub stated : totals ≡ record { quantity = quantities lines; amount = unsigned_abs (priced lines extras) }
+  pub comes_to : pos totals.amount ≡ priced lines extras
+  pub most : unsigned_abs (priced lines extras) ≤ MOST_CENTS
+
+pub have_totals : (lines : List Line) (extras : List Extra) (totals : Totals) → totals_of lines extras ≡ Ok totals → HaveTotals lines extras totals
+have_totals lines extras totals e =
+    let sum : ℤ = priced lines extras in
+    let s = can_be (int_lt sum (pos 0)) (int_lt (pos MOST_CENTS) sum) (quantities lines) sum totals e in
+    record { stated = s.2; comes_to = itself sum totals.amount s.0 (ap (λ (t : Totals). t.amount) s.2); most = within sum s.0 s.1 }
 
 pub totals_priced : (lines : List Line) (extras : List Extra) (quantity amount : ℕ) → totals_of lines extras ≡ Ok (record { quantity = quantity; amount = amount }) → pos amount ≡ priced lines extras
-totals_priced lines extras quantity amount e = rounds (priced lines extras) (quantities lines) quantity amount e
+totals_priced lines extras quantity amount e = (have_totals lines extras (record { quantity = quantity; amount = amount }) e).comes_to
 
 stated : (quantity amount : ℕ) → amount ≤ MOST_CENTS → totals_from quantity (pos amount) ≡ Ok (record { quantity = quantity; amount = amount })
 stated quantity amount low =

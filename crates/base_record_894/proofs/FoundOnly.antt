@@ -9,6 +9,8 @@ use Rattle.dsd_values.specs.declared.line.Line.{Line}
 use Rattle.segments.specs.Extras.{HasExtras}
 use Rattle.segments.specs.Tables.{totals_fault, totals_in}
 use Rattle.dsd_values.specs.declared.limits.TheConstants.{MOST_LINES, SET_BYTES}
+use Rattle.std.specs.Option.{is_some}
+use Rattle.dsd_values.specs.SignatureRecord.{SignatureRecord}
 use Rattle.segments.specs.Views.{Seg, element_of}
 use Rattle.segments.specs.Kinds.{kind_of, next_phase, is_done}
 use Rattle.segments.specs.SoFar.{SoFar, kept, phase_in}
@@ -163,6 +165,10 @@ whole_end (seg ∷ segs) m place fault e s u p =
 
 -- ---- what stands to the end is the rest of a record
 
+some_signed : (s : Option SignatureRecord) (signature : SignatureRecord) → Some signature ≡ s → is_some s ≡ true
+some_signed (Some s) signature e = refl
+some_signed None signature e = cc
+
 some_head : (h : Option Head) (head : Head) → Some head ≡ h → has_head h ≡ true
 some_head (Some h) head e = refl
 some_head None head e = cc
@@ -173,7 +179,7 @@ pub record IsWhole (from : Phase) (m : Said) (b : BaseRecord) (s : Seal) (amount
   pub head : Some (head_of b) ≡ m.head
   pub read : Read m.course (shared_of b s amount)
   pub totals : (shared_of b s amount).totals ≡ m.course.totals
-  pub signature : b.signature ≡ m.course.signature
+  pub signature : Some b.signature ≡ m.course.signature
   pub check : s.check ≡ m.course.integrity
 
 found_rest : (segs : List Seg) (m : Said) (before : List Seg) (place : ℕ) (fault : Option SegmentFault) (b : BaseRecord) (s : Seal) (amount : ℕ) → IsAt before m.course → refusal_from judged m place segs fault ≡ None
@@ -181,7 +187,7 @@ found_rest : (segs : List Seg) (m : Said) (before : List Seg) (place : ℕ) (fau
 unfolding kept kept_by
 found_rest [] m before place fault b s amount at e w =
     let whole = and_both _ _ (ended_none _ place fault e).0 in
-    let done = done_is m.course.phase whole.0 in
+    let done = done_is m.course.phase (and_both _ _ whole.0).0 in
     subst (λ (p : Phase). Rest894 p m b s amount before []) done (w.head, (w.read, w.totals, w.signature, w.check, refl))
 found_rest (seg ∷ segs) m before place fault b s amount at e w =
     let n = refused_none (reason_of m seg) seg.start _ e in
@@ -193,7 +199,7 @@ found_rest (seg ∷ segs) m before place fault b s amount at e w =
 whole_behind : (segs : List Seg) (m : Said) (place : ℕ) (fault : Option SegmentFault) → refusal_from judged m place segs fault ≡ None → is_behind (said_by judged m segs).course.phase ≡ true
 whole_behind [] m place fault e =
     let whole = and_both _ _ (ended_none _ place fault e).0 in
-    ap is_behind (sym (done_is m.course.phase whole.0))
+    ap is_behind (sym (done_is m.course.phase (and_both _ _ whole.0).0))
 whole_behind (seg ∷ segs) m place fault e = whole_behind segs (after m seg) _ fault (refused_none (reason_of m seg) seg.start _ e).1
 
 shaped : (segs : List Seg) (b : BaseRecord) (s : Seal) (amount : ℕ) → Rest894 phases.Start nothing b s amount [] segs → AreSegments b s amount segs
@@ -259,8 +265,8 @@ found text parts e r =
     })
 
 -- the record that was said, with this head
-abbrev pub record_in : Head → SoFar → BaseRecord
-record_in h m = record {
+abbrev pub record_in : Head → SignatureRecord → SoFar → BaseRecord
+record_in h signature m = record {
   flag = h.flag;
   number = h.number;
   day = h.day;
@@ -273,16 +279,22 @@ record_in h m = record {
   lines = m.lines;
   extras = m.extras;
   deposit = m.totals.deposit;
-  signature = m.signature;
+  signature = signature;
 }
+
+signature_there : (s : Option SignatureRecord) → is_some s ≡ true → (signature : SignatureRecord) × (Some signature ≡ s)
+signature_there (Some signature) e = (signature, refl)
+signature_there None e = cc
 
 head_there : (h : Option Head) → has_head h ≡ true → (head : Head) × (Some head ≡ h)
 head_there (Some head) e = (head, refl)
 head_there None e = cc
 
-whole_head : (segs : List Seg) (m : Said) (place : ℕ) (fault : Option SegmentFault) → refusal_from judged m place segs fault ≡ None → has_head (said_by judged m segs).head ≡ true
-whole_head [] m place fault e = (and_both _ _ (ended_none _ place fault e).0).1
-whole_head (seg ∷ segs) m place fault e = whole_head segs (after m seg) _ fault (refused_none (reason_of m seg) seg.start _ e).1
+whole_said : (segs : List Seg) (m : Said) (place : ℕ) (fault : Option SegmentFault) → refusal_from judged m place segs fault ≡ None → (is_some (said_by judged m segs).course.signature ≡ true) × (has_head (said_by judged m segs).head ≡ true)
+whole_said [] m place fault e =
+    let whole = and_both _ _ (ended_none _ place fault e).0 in
+    ((and_both _ _ whole.0).1, whole.1)
+whole_said (seg ∷ segs) m place fault e = whole_said segs (after m seg) _ fault (refused_none (reason_of m seg) seg.start _ e).1
 
 -- What is not refused is some base record.
 pub some_record : (text : List ℕ) → refusal_from judged nothing 0 (cut_of text).segments (cut_of text).fault ≡ None → (b : BaseRecord) × (s : Seal) × Is894 b s text
@@ -290,17 +302,19 @@ some_record text e =
     let zero_in : 0 ≤ SET_BYTES = omega arith in
     let segs = (cut_of text).segments in
     let m = (said_by judged nothing segs).course in
-    let h = head_there (said_by judged nothing segs).head (whole_head segs nothing 0 (cut_of text).fault e) in
+    let whole = whole_said segs nothing 0 (cut_of text).fault e in
+    let h = head_there (said_by judged nothing segs).head whole.1 in
+    let g = signature_there m.signature whole.0 in
     let sums = agreed_end segs 0 (cut_of text).fault e zero_in in
     let seal : Seal = record { control = m.control; check = m.integrity } in (
-      record_in h.0 m,
+      record_in h.0 g.0 m,
       seal,
-      found_so text (record_in h.0 m) seal m.totals.amount e (record {
+      found_so text (record_in h.0 g.0 m) seal m.totals.amount e (record {
         done = refl;
         head = h.1;
         read = (refl, refl, refl, refl);
         totals = totals_so m.lines m.totals sums.0;
-        signature = refl;
+        signature = g.1;
         check = refl;
       }),
     )
@@ -321,7 +335,7 @@ pub record IsReadSo (m : Said) (b : BaseRecord) (s : Seal) (amount : ℕ) (place
   pub extras : b.extras ≡ (said_by judged m segs).course.extras
   pub control : s.control ≡ (said_by judged m segs).course.control
   pub totals : (shared_of b s amount).totals ≡ (said_by judged m segs).course.totals
-  pub signature : b.signature ≡ (said_by judged m segs).course.signature
+  pub signature : Some b.signature ≡ (said_by judged m segs).course.signature
   pub check : s.check ≡ (said_by judged m segs).course.integrity
 
 at_end : (from : Phase) (m : Said) (b : BaseRecord) (s : Seal) (amount : ℕ) (before : List Seg) → Rest894 from m b s amount before [] → IsWhole from m b s amount
@@ -351,7 +365,7 @@ unfolding kept kept_by
 only_rest [] m b s amount before place sound price at short r =
     let w = at_end m.course.phase m b s amount before r in
     record {
-      none = none_ended _ place (both_and _ _ w.done (some_head m.head (head_of b) w.head));
+      none = none_ended _ place (both_and _ _ (both_and _ _ w.done (some_signed _ _ w.signature)) (some_head m.head (head_of b) w.head));
       head = w.head;
       references = w.read.0;
       lines = w.read.1;

@@ -4,3 +4,4 @@ pub mod FoundOnly
 pub mod OneRecord
 pub mod Totalled
 pub mod WrittenBack
+pub mod Made

@@ -4,8 +4,11 @@ use Rattle.dsd_values.specs.Calendar.{Date}
 use Rattle.dsd_values.specs.declared.extra.Extra.{Extra}
 use Rattle.dsd_values.specs.declared.flag.Flag.{Flag}
 use Rattle.dsd_values.specs.declared.line.Line.{Line}
-use Rattle.dsd_values.specs.declared.signature.Signature.{Signature}
+use Rattle.dsd_values.specs.SignatureRecord.{SignatureRecord}
+use Rattle.segments.proofs.Small.{same_some}
 use Rattle.segments.specs.SegmentCut.{cut_of}
+use Rattle.segments.specs.declared.kind.Form.TheVariants as forms
+use Rattle.segments.proofs.Making.{set_few}
 use Rattle.segments.proofs.Whole.{long_ones}
 use Rattle.segments.specs.Refusal.{Answers, Refusal}
 use Rattle.segments.specs.declared.segment_fault.SegmentFault.{SegmentFault}
@@ -14,7 +17,7 @@ use Rattle.segments.specs.declared.set_fault.SetFault.TheVariants as errors
 use Rattle.segments.specs.declared.seal.Seal.{Seal}
 use Rattle.segments.specs.declared.stated.StatedTotals.{StatedTotals}
 use Rattle.base_record_894.specs.BaseRecord.{BaseRecord}
-use Rattle.base_record_894.specs.Grammar.{shared_of}
+use Rattle.base_record_894.specs.Grammar.{IsHead, shared_of}
 use Rattle.base_record_894.specs.RecordText.{Is894, IsBase}
 use Rattle.base_record_894.specs.Said.{nothing}
 use Rattle.base_record_894.specs.FirstRefusal.{judged, refusal_of}
@@ -25,7 +28,7 @@ use Rattle.base_record_894.specs.declared.parts.Parts.{Parts}
 use Rattle.base_record_894.proofs.Moves.{head_of}
 use Rattle.base_record_894.proofs.FoundOnly.{found, only}
 
-abbrev record_with : Flag → List ℕ → Date → List ℕ → List ℕ → List ℕ → List ℕ → List ℕ → List (List ℕ) → List Line → List Extra → Option ℕ → Signature → BaseRecord
+abbrev record_with : Flag → List ℕ → Date → List ℕ → List ℕ → List ℕ → List ℕ → List ℕ → List (List ℕ) → List Line → List Extra → Option ℕ → SignatureRecord → BaseRecord
 record_with flag number day receiver_duns receiver_place supplier_duns supplier_place tail references lines extras deposit signature = record { flag = flag; number = number; day = day; receiver_duns = receiver_duns; receiver_place = receiver_place; supplier_duns = supplier_duns; supplier_place = supplier_place; tail = tail; references = references; lines = lines; extras = extras; deposit = deposit; signature = signature }
 
 same_record : (a b : BaseRecord) → a.flag ≡ b.flag → a.number ≡ b.number → a.day ≡ b.day → a.receiver_duns ≡ b.receiver_duns → a.receiver_place ≡ b.receiver_place → a.supplier_duns ≡ b.supplier_duns → a.supplier_place ≡ b.supplier_place → a.tail ≡ b.tail → a.references ≡ b.references → a.lines ≡ b.lines → a.extras ≡ b.extras → a.deposit ≡ b.deposit → a.signature ≡ b.signature → a ≡ b
@@ -42,7 +45,7 @@ same_record a b e1 e2 e3 e4 e5 e6 e7 e8 e9 e10 e11 e12 e13 =
     ∙ ap (λ (v : List Line). record_with b.flag b.number b.day b.receiver_duns b.receiver_place b.supplier_duns b.supplier_place b.tail b.references v a.extras a.deposit a.signature) e10
     ∙ ap (λ (v : List Extra). record_with b.flag b.number b.day b.receiver_duns b.receiver_place b.supplier_duns b.supplier_place b.tail b.references b.lines v a.deposit a.signature) e11
     ∙ ap (λ (v : Option ℕ). record_with b.flag b.number b.day b.receiver_duns b.receiver_place b.supplier_duns b.supplier_place b.tail b.references b.lines b.extras v a.signature) e12
-    ∙ ap (λ (v : Signature). record_with b.flag b.number b.day b.receiver_duns b.receiver_place b.supplier_duns b.supplier_place b.tail b.references b.lines b.extras b.deposit v) e13
+    ∙ ap (λ (v : SignatureRecord). record_with b.flag b.number b.day b.receiver_duns b.receiver_place b.supplier_duns b.supplier_place b.tail b.references b.lines b.extras b.deposit v) e13
 
 same_seal : (a b : Seal) → a.control ≡ b.control → a.check ≡ b.check → a ≡ b
 same_seal a b c e = ap (λ (v : List ℕ). record { control = v; check = a.check }) c ∙ ap (λ (v : ℕ). record { control = b.control; check = v }) e
@@ -69,7 +72,7 @@ same_read text parts b s is r =
           (ap (λ (h : Head). h.supplier_place) head)
           (ap (λ (h : Head). h.tail) head)
           (r.closed.references ∙ sym o.references) (r.closed.lines ∙ sym o.lines) (r.closed.extras ∙ sym o.extras)
-          (ap (λ (t : StatedTotals). t.deposit) totals) (r.closed.signature ∙ sym o.signature);
+          (ap (λ (t : StatedTotals). t.deposit) totals) (same_some _ _ (r.closed.signature ∙ sym o.signature));
       seal = same_seal (seal_of parts) s (r.closed.control ∙ sym o.control) (r.closed.check ∙ sym o.check);
     }
 
@@ -97,6 +100,7 @@ is_base text b s is = record {
   price = is.price;
   shape = is.shape;
   sound = is.sound;
+  few = set_few forms.Base s.control (IsHead b) b.references b.lines b.extras (shared_of b s is.amount) is.segments text is.shape is.spelled is.short;
 }
 
 pub spelled : (text : List ℕ) (parts : Parts) → refusal_of text ≡ None → IsReadFrom (said_by judged nothing (cut_of text).segments) parts → IsBase (record_of parts)
@@ -120,7 +124,7 @@ one text a b s t is also =
           (ap (λ (h : Head). h.supplier_place) head)
           (ap (λ (h : Head). h.tail) head)
           (o.references ∙ sym p.references) (o.lines ∙ sym p.lines) (o.extras ∙ sym p.extras)
-          (ap (λ (u : StatedTotals). u.deposit) totals) (o.signature ∙ sym p.signature),
+          (ap (λ (u : StatedTotals). u.deposit) totals) (same_some _ _ (o.signature ∙ sym p.signature)),
       same_seal s t (o.control ∙ sym p.control) (o.check ∙ sym p.check),
     )
 

@@ -5,7 +5,7 @@ use Rattle.dsd_values.specs.Calendar.{Date}
 use Rattle.dsd_values.specs.declared.extra.Extra.{Extra}
 use Rattle.dsd_values.specs.declared.flag.Flag.{Flag}
 use Rattle.dsd_values.specs.declared.line.Line.{Line}
-use Rattle.dsd_values.specs.declared.signature.Signature.{Signature}
+use Rattle.dsd_values.specs.SignatureRecord.{SignatureRecord}
 
 pub record BaseRecord : Type 0 where
   pub flag : Flag
@@ -20,7 +20,7 @@ pub record BaseRecord : Type 0 where
   pub lines : List Line
   pub extras : List Extra
   pub deposit : Option ℕ
-  pub signature : Signature
+  pub signature : SignatureRecord
 
 -- the amount of a record in cents: what its rows come to, which is not below 0 in any record
 abbrev pub amount_of : BaseRecord → ℕ

@@ -6,3 +6,4 @@ pub mod Said
 pub mod FirstRefusal
 pub mod ReadParts
 pub mod WrittenText
+pub mod Making

@@ -5,6 +5,7 @@ use Rattle.dsd_values.specs.declared.limits.TheConstants.{SET_BYTES}
 use Rattle.segments.specs.Views.{Seg}
 use Rattle.segments.specs.SegmentSpelling.{IsLongSegment, SpellsSegments}
 use Rattle.segments.specs.Grammar.{IsSound}
+use Rattle.segments.specs.SoundLines.{HaveFew}
 use Rattle.segments.specs.declared.seal.Seal.{Seal}
 use Rattle.base_record_894.specs.BaseRecord.{BaseRecord}
 use Rattle.base_record_894.specs.Grammar.{AreSegments}
@@ -20,7 +21,8 @@ pub record Is894 (base : BaseRecord) (seal : Seal) (text : List ℕ) : Type 0 wh
   pub sound : IsSound base.lines base.extras
   pub short : length text ≤ SET_BYTES
 
--- Some segments say the record, however long they are: the records that a text spells, lengths aside.
+-- Some segments say the record, however long they are: the records that a text spells, lengths aside. No more extras stand at one
+-- place than a set has bytes.
 pub record IsBase (base : BaseRecord) : Type 0 where
   pub seal : Seal
   pub segments : List Seg
@@ -29,3 +31,4 @@ pub record IsBase (base : BaseRecord) : Type 0 where
   pub price : totals_of base.lines base.extras ≡ Ok (record { quantity = quantities base.lines; amount = amount })
   pub shape : AreSegments base seal amount segments
   pub sound : IsSound base.lines base.extras
+  pub few : HaveFew base.lines base.extras

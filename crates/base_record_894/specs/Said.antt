@@ -8,7 +8,8 @@ use Rattle.dsd_values.specs.declared.line.Line.{Line}
 use Rattle.segments.specs.Views.{Seg}
 use Rattle.segments.specs.Elements.{◌or_else◌}
 use Rattle.segments.specs.Tables.{totals_fault, totals_in}
-use Rattle.segments.specs.Kinds.{kind_of, next_phase, is_done}
+use Rattle.segments.specs.Closing.{is_closed}
+use Rattle.segments.specs.Kinds.{kind_of, next_phase}
 use Rattle.segments.specs.SoFar.{SoFar, kept, phase_in}
 use Rattle.segments.specs.SoFar as course
 use Rattle.segments.specs.Reasons.{when, as_value, admission, course_reason}
@@ -71,6 +72,6 @@ abbrev pub has_head : Option Head → Bool
 has_head (Some head) = true
 has_head None = false
 
--- The trailer has come. A head has then come too, and is asked for because it may be none.
+-- The trailer has come. A head and a signature have then come too, and are asked for because they may be none.
 abbrev pub is_whole : Said → Bool
-is_whole m = is_done m.course.phase && has_head m.head
+is_whole m = is_closed m.course && has_head m.head

@@ -1,17 +1,19 @@
 //! The base record of a delivery.
 
-ghost use Rattle.std.specs.Prelude.{◌≡◌, IfOk, pos};
-ghost use Rattle.dsd_pricing.specs.Pricing.{priced, quantities as sum_of_quantities};
+ghost use Rattle.std.specs.Prelude.{◌≡◌, ◌≤◌, IfOk, false, length, pos};
+ghost use Rattle.dsd_pricing.specs.Pricing.{priced, quantities as sum_of_quantities, totals_of};
+ghost use Rattle.dsd_values.specs.declared.limits.TheConstants.{MOST_LINES};
+ghost use Rattle.segments.specs.SoundLines.{AreSoundExtras, AreSoundLines};
 ghost use Rattle.base_record_894.specs.BaseRecord.{amount_of as cents_of_rows};
+ghost use Rattle.base_record_894.specs.Making.{record_made, unless_unpriced};
 ghost use Rattle.base_record_894.specs.ReadParts.{record_of, seal_of};
 ghost use Rattle.base_record_894.specs.RecordText.{IsBase};
 ghost use Rattle.base_record_894.specs.WrittenText.{stated_totals};
 
-use crate::head::Head;
+use crate::head::{BaseHead, Head};
 use crate::notes::Notes;
 use crate::parts::Parts;
-use crate::rows::quantities;
-use dsd_pricing::amount_of;
+use dsd_pricing::{PriceFault, amount_of, quantities};
 use dsd_values::{Cents, Day, DeliveryNumber, Extras, Flag, Kept, Lines, Memory, Signature, Word};
 use segments::{Closed, Seal, StatedTotals};
 use std::alloc::Global;
@@ -67,6 +69,35 @@ pub fn seal_up(parts: Parts) -> (Base, Seal)
 }
 
 impl Base {
+    /// The record of this head, these rows and this signature, where the rows have a price. Nothing stands behind its head, and it has no
+    /// reference and no deposit.
+    pub fn new(
+        alloc: Global,
+        head: BaseHead,
+        lines: Lines,
+        extras: Extras,
+        signature: Signature,
+    ) -> Result<Base, PriceFault>
+        requires sound { AreSoundLines lines }
+        requires few { length lines ≤ MOST_LINES }
+        requires beside { AreSoundExtras false extras }
+        ensures { result ≡ unless_unpriced (totals_of lines extras) (record_made head lines extras signature) }
+    {
+        // What a signature keeps is known once its mark is lent.
+        let _ = signature.mark();
+        match amount_of(lines.as_slice(), extras.as_slice()) {
+            Ok(_) => Ok(Base {
+                head: head.with_no_tail(),
+                references: Notes::new(alloc),
+                lines,
+                extras,
+                deposit: None,
+                signature,
+            }),
+            Err(fault) => Err(fault),
+        }
+    }
+
     /// Whether the delivery is charged or credited.
     pub fn flag(&self) -> Flag
         ensures { result ≡ self.now.flag }

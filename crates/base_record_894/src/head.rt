@@ -6,6 +6,7 @@ ghost use Rattle.segments.specs.Elements.{Reads, at_element, said};
 ghost use Rattle.dsd_values.specs.Reading.{flag_of, delivery_number_of};
 ghost use Rattle.dsd_values.specs.Calendar.{day_of};
 ghost use Rattle.base_record_894.specs.HeadTable.{head_fault, head_in, no_day};
+ghost use Rattle.base_record_894.specs.Making.{IsPlainHead, head_alone};
 ghost use Rattle.dsd_values.specs.declared.flag.Flag.TheVariants as flags;
 
 use dsd_values::{
@@ -13,6 +14,48 @@ use dsd_values::{
 };
 use segments::{ItemFault, Segment, in_element, tail_at, word_at};
 use std::alloc::Global;
+
+/// What a G82 says in its listed elements.
+#[derive(Debug, Drop)]
+pub struct BaseHead {
+    /// Whether the delivery is charged or credited.
+    pub flag: Flag,
+    pub number: DeliveryNumber,
+    /// The day of the delivery.
+    pub day: Day,
+    /// The receiver's DUNS number.
+    pub receiver_duns: Word,
+    pub receiver_place: Word,
+    /// The supplier's DUNS number.
+    pub supplier_duns: Word,
+    pub supplier_place: Word,
+}
+
+impl BaseHead {
+    /// The head of these fields, with nothing behind them.
+    pub fn with_no_tail(self) -> Head
+        ensures value { result ≡ head_alone self }
+        ensures plain { IsPlainHead self }
+    {
+        // What the types keep is known once their values are lent.
+        let _ = self.number.as_slice();
+        let _ = self.day.year();
+        let _ = self.receiver_duns.as_slice();
+        let _ = self.receiver_place.as_slice();
+        let _ = self.supplier_duns.as_slice();
+        let _ = self.supplier_place.as_slice();
+        Head {
+            flag: self.flag,
+            number: self.number,
+            receiver_duns: self.receiver_duns,
+            receiver_place: self.receiver_place,
+            supplier_duns: self.supplier_duns,
+            supplier_place: self.supplier_place,
+            day: self.day,
+            tail: Kept::empty(),
+        }
+    }
+}
 
 /// What a G82 says.
 #[derive(Debug, Drop)]

@@ -14,8 +14,9 @@ mod writing_laws;
 
 pub use base::Base;
 pub use from_text::read_894;
+pub use head::BaseHead;
 pub use notes::Notes;
-pub use writing::write_894;
+pub use writing::{write_894, write_sealed_894};
 pub use writing_laws::written_is_read;
 
 #[cfg(test)]

@@ -21,7 +21,7 @@ impl Model for Notes {
 }
 
 impl Notes {
-    pub fn new(alloc: Global) -> Self
+    pub(crate) fn new(alloc: Global) -> Self
         ensures { result ≡ [] }
     {
         Notes {
@@ -36,7 +36,7 @@ impl Notes {
         Notes { items }
     }
 
-    pub fn push(&mut self, item: Kept) -> Result<(), Memory>
+    fn push(&mut self, item: Kept) -> Result<(), Memory>
         ensures ok { OnOk result (self.new ≡ self.old ++ item ∷ []) }
         ensures err { OnErr result (self.new ≡ self.old) }
     {

@@ -102,11 +102,8 @@ impl Reader {
         ensures { Answers result (ended_at (is_whole self) place None) (IsReadFrom self) }
     {
         let Reader { course, head, .. } = self;
-        match head {
-            Some(head) if course.phase().is_done() => Ok(Parts {
-                head,
-                closed: course.close(),
-            }),
+        match (head, course.close()) {
+            (Some(head), Some(closed)) => Ok(Parts { head, closed }),
             _ => Err(SetFault::Refused {
                 place,
                 reason: SetReason::Order,

@@ -1,13 +1,12 @@
 //! The totals of a record against its rows.
 
 ghost use Rattle.std.specs.Prelude.{◌≡◌, ◌≤◌, length, All, Err, false};
-ghost use Rattle.dsd_pricing.specs.Pricing.{quantities as sum_of_quantities};
 ghost use Rattle.dsd_values.specs.declared.limits.TheConstants.{MOST_LINES};
 ghost use Rattle.segments.specs.Extras.{AreExtras, HasExtras};
 ghost use Rattle.segments.specs.Reasons.{Says};
 ghost use Rattle.base_record_894.specs.Said.{rows_reason};
 
-use dsd_pricing::sum_of;
+use dsd_pricing::{quantities, sum_of};
 use dsd_values::{Extra, Line};
 use segments::{Segment, SetFault, SetReason, StatedTotals, refuse};
 
@@ -38,16 +37,4 @@ fn refuse_totals(segment: &Segment<'_>, said: u64, computed: i128) -> Result<(),
     ensures { result ≡ Err (SetFault.Refused segment.now.start (SetReason.Totals said computed)) }
 {
     refuse(segment, SetReason::Totals { said, computed })
-}
-
-/// The sum of the quantities of these lines.
-pub fn quantities(lines: &[Line]) -> u32
-    requires { length lines.now ≤ MOST_LINES }
-    ensures { result ≡ sum_of_quantities lines.now }
-{
-    let mut sum = 0;
-    for line in lines {
-        sum += line.quantity.get();
-    }
-    sum
 }

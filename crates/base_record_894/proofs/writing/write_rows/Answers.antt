@@ -1,4 +1,4 @@
-use Rattle.std.proofs.Common.{Err, ap, inr, ◌∙◌}
+use Rattle.std.proofs.Common.{sym, inr}
 use Rattle.dsd_pricing.proofs.WholeTexts.{none_long, one_long}
 use Rattle.segments.specs.RowsWritten.{first_long}
 use Rattle.segments.specs.SegmentWriting.{text_of}
@@ -9,11 +9,11 @@ use Rattle.base_record_894.proofs.writing.write_rows.Goals as goal
 pub returns-in-Ok-clause-exact : goal.returns-in-Ok-clause-exact
 returns-in-Ok-clause-exact c =
     let rows = rows_of c.args.base.now c.args.control in
-    let is = rows_text rows c.sealed.result c.in-Ok.text c.in-Ok.is c.sealed.ensures.exact in
-    inr (none_long (first_long rows) (text_of rows) c.in-Ok.text is.0 is.1)
+    let is = rows_text rows _ c.in-Ok.ensures.exact in
+    sym (none_long (first_long rows) (text_of rows) _ is.0 is.1)
 
 pub returns-in-Err-LongSegment-clause-exact : goal.returns-in-Err-LongSegment-clause-exact
 returns-in-Err-LongSegment-clause-exact c =
     let rows = rows_of c.args.base.now c.args.control in
-    let is = rows_long rows c.sealed.result c.in-Err-LongSegment.size (c.in-Err-LongSegment.is ∙ ap (λ fault. Err fault) c.in-Err-LongSegment.field-0-is) c.sealed.ensures.exact in
-    inr (one_long (first_long rows) (text_of rows) c.in-Err-LongSegment.size is)
+    let given = rw c.in-Err-LongSegment.field-0-is at c.in-Err-LongSegment.ensures.exact in
+    inr (sym (one_long (first_long rows) (text_of rows) c.in-Err-LongSegment.size (rows_long rows c.in-Err-LongSegment.size given)))

@@ -1,0 +1,42 @@
+use Rattle.std.proofs.Common.{◌≤◌, ◌<◌, ◌∙◌, ℕ, Err, ap, inr, length, arith, sym}
+use Rattle.dsd_values.specs.declared.limits.TheConstants.{SET_BYTES}
+use Rattle.dsd_pricing.specs.declared.fault.WriteFault.TheVariants.{LongSet, Memory}
+use Rattle.segments.specs.RowsWritten.{first_long}
+use Rattle.segments.specs.SegmentWriting.{text_of}
+use Rattle.segments.proofs.Rows.{passed_on, same_err}
+use Rattle.base_record_894.specs.WrittenText.{rows_of}
+use Rattle.dsd_pricing.proofs.WholeTexts.{never_priced, whole_long, whole_short}
+use Rattle.base_record_894.proofs.WrittenBack.{answer_read, priced_so, refused_so}
+use Rattle.base_record_894.proofs.writing.write_sealed_894.Goals as goal
+
+pub returns-in_err-sealed-clause-exact : goal.returns-in_err-sealed-clause-exact
+returns-in_err-sealed-clause-exact c = passed_on Memory _ _ _ _ c.from_residual.ensures (refused_so c.args.base.now c.args.control _ c.write_rows.ensures.spelled c.in_err-sealed.ensures.exact)
+
+pub returns-in_err-sealed-clause-priced : goal.returns-in_err-sealed-clause-priced
+returns-in_err-sealed-clause-priced c =
+    never_priced (first_long (rows_of c.args.base.now c.args.control)) (text_of (rows_of c.args.base.now c.args.control)) _ _ (same_err _ _ c.from_residual.ensures) c.in_err-sealed.ensures.exact
+
+pub returns-then-length-gt-SET_BYTES-clause-exact : goal.returns-then-length-gt-SET_BYTES-clause-exact
+returns-then-length-gt-SET_BYTES-clause-exact c =
+    let base = c.args.base.now in
+    let control = c.args.control in
+    let size = ap length c.as_slice-length.ensures in
+    let over : SET_BYTES < length c.in_ok-sealed.sealed.0 = omega (arith, c.if-length-gt-SET_BYTES.true, size) in
+    inr (priced_so base control c.write_rows.ensures.spelled ∙ whole_long (first_long (rows_of base control)) (text_of (rows_of base control)) _ c.in_ok-sealed.ensures.exact over ∙ ap (λ (n : ℕ). Err (LongSet n)) (sym size))
+
+pub returns-clause-exact : goal.returns-clause-exact
+returns-clause-exact c =
+    let base = c.args.base.now in
+    let control = c.args.control in
+    let short : length c.in_ok-sealed.sealed.0 ≤ SET_BYTES = omega (arith, c.if-length-gt-SET_BYTES.false, ap length c.as_slice-length.ensures) in
+    priced_so base control c.write_rows.ensures.spelled ∙ whole_short (first_long (rows_of base control)) (text_of (rows_of base control)) _ c.in_ok-sealed.ensures.exact short
+
+pub returns-clause-spelled : goal.returns-clause-spelled
+returns-clause-spelled c =
+    let short : length c.in_ok-sealed.sealed.0 ≤ SET_BYTES = omega (arith, c.if-length-gt-SET_BYTES.false, ap length c.as_slice-length.ensures) in
+    (answer_read c.args.base.now c.args.control _ c.requires c.write_rows.ensures.spelled c.in_ok-sealed.ensures.exact short).spelled
+
+pub returns-clause-set : goal.returns-clause-set
+returns-clause-set c =
+    let short : length c.in_ok-sealed.sealed.0 ≤ SET_BYTES = omega (arith, c.if-length-gt-SET_BYTES.false, ap length c.as_slice-length.ensures) in
+    (answer_read c.args.base.now c.args.control _ c.requires c.write_rows.ensures.spelled c.in_ok-sealed.ensures.exact short).set
