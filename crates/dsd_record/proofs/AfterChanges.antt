@@ -15,7 +15,7 @@ use Rattle.segments.specs.Extras.{HasExtras}
 use Rattle.segments.proofs.Small.{at_most}
 use Rattle.dsd_record.specs.ChangedPrice.{IsPriceAfter, IsRefused, as_change, price_with, totals_within}
 use Rattle.dsd_record.specs.LineChanges.{changed}
-use Rattle.dsd_record.specs.SoundLines.{AreSoundLines, IsSoundLine}
+use Rattle.segments.specs.SoundLines.{AreSoundLines, IsSoundLine}
 use Rattle.dsd_record.specs.Version.{IsVersion, Version}
 use Rattle.dsd_record.specs.declared.price_after.ChangeFault.{ChangeFault}
 use Rattle.dsd_record.specs.declared.price_after.ChangeFault.TheVariants.{Limit, Memory, Price}
@@ -85,7 +85,7 @@ refused_after version changes (Err Memory) u = tt
 -- ---- what the lines have behind them
 
 behind_each : (lines : List Line) → All IsSoundLine lines → All HasExtras lines
-behind_each lines h = λ k d under. (h k d under).behind
+behind_each lines h = λ k d under. (h k d under).extras.limit
 
 -- the lines after sound changes
 pub behind_after : (version : Version) (changes : List Line) → IsVersion version → AreSoundLines changes → All HasExtras (changed version.lines changes)

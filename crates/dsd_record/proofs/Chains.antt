@@ -1,106 +1,120 @@
 -- A chain with one adjustment more, and its version.
-use Rattle.std.proofs.Common.{◌≡◌, ◌≢◌, ℕ, ◌+◌, Bool, false, if◌then◌else◌, List, [], ◌∷◌, ◌++◌, length, map, Result, Ok, Err, refl, sym, ap, subst, ◌∙◌, append-nil, append_assoc, OnOk, arith}
+use Rattle.std.proofs.Common.{◌≡◌, ◌≢◌, ◌≤◌, ℕ, ◌+◌, Bool, false, if◌then◌else◌, List, [], ◌∷◌, ◌++◌, length, map, Option, Some, Result, Ok, Err, refl, sym, ap, subst, ◌∙◌, append-nil, append_assoc, option_map, OnOk, arith}
 use Rattle.std.specs.List.{flat_map, range_with_len}
+use Rattle.std.specs.Result.{result_ok}
+use Rattle.dsd_pricing.specs.Pricing.{totals_of}
+use Rattle.dsd_pricing.specs.declared.amounts.Totals.{Totals}
+use Rattle.dsd_pricing.specs.declared.fault.PriceFault.{PriceFault}
+use Rattle.dsd_values.specs.declared.cents.TheConstants.Cents.{MAX as MOST_CENTS}
 use Rattle.dsd_values.specs.declared.line.Line.{Line}
 use Rattle.adjustment_895.specs.AnswerRecord.{AnswerRecord}
 use Rattle.adjustment_895.specs.Grammar.{has_none}
-use Rattle.dsd_record.specs.Applying.{Applies, Refuses, adjusted, applied, apply_fault}
+use Rattle.dsd_record.specs.Applying.{Applies, Refuses, adjusted, applied, apply_fault, lines_after, stated_by}
+use Rattle.dsd_record.specs.Chain.{Adjusted, Chain, FollowOn, Follows, GoesOn, IsChained, chain_from, last_check, lines_of, version_of, version_with, with_adjusted}
+use Rattle.dsd_record.specs.LineChanges.{changed, put}
+use Rattle.dsd_record.specs.Naming.{answered_level}
+use Rattle.dsd_record.specs.Version.{Version}
 use Rattle.dsd_record.specs.declared.fault.ApplyFault.{ApplyFault}
 use Rattle.dsd_record.proofs.Faults.{faultless}
-use Rattle.dsd_record.specs.Chain.{Adjusted, Chain, FollowOn, GoesOn, IsChained, base_proposal, last_check, lines_of, proposal_by, version_of, with_adjusted}
-use Rattle.dsd_record.specs.LineChanges.{changed, put}
-use Rattle.dsd_record.specs.Naming.{Names, Proposal, answered_level, proposal_of}
-use Rattle.dsd_record.specs.Version.{Version, totals_by}
+use Rattle.dsd_record.proofs.Prices.{price_behind}
 
--- ---- lists of adjustments
+-- ---- adjustments on a version
 
-abbrev last_of : Proposal → List Adjusted → Proposal
-last_of before [] = before
-last_of before (adjusted ∷ more) = last_of (proposal_by adjusted) more
+abbrev own_lines : Adjusted → List Line
+own_lines adjustment = adjustment.answer.lines
 
--- one more behind the last
-follow_more : (before : Proposal) (xs : List Adjusted) (x : Adjusted) → FollowOn before xs → x.answer.lines ≢ [] → Names x.answer (last_of before xs) → FollowOn before (xs ++ x ∷ [])
-follow_more before [] x all has names = (has, names, tt)
-follow_more before (y ∷ ys) x all has names = (all.0, all.1, follow_more (proposal_by y) ys x all.2 has names)
+-- the version behind all of these
+abbrev behind : Version → List Adjusted → Version
+behind version [] = version
+behind version (x ∷ xs) = behind (adjusted version x.answer x.check) xs
+
+-- one more follows on the version behind the others
+follow_more : (version : Version) (xs : List Adjusted) (x : Adjusted) → FollowOn version xs → Follows (behind version xs) x.answer → FollowOn version (xs ++ x ∷ [])
+follow_more version [] x all last = (last, tt)
+follow_more version (y ∷ ys) x all last = (all.0, follow_more (adjusted version y.answer y.check) ys x all.1 last)
+
+behind_more : (version : Version) (xs : List Adjusted) (x : Adjusted) → behind version (xs ++ x ∷ []) ≡ adjusted (behind version xs) x.answer x.check
+behind_more version [] x = refl
+behind_more version (y ∷ ys) x = behind_more (adjusted version y.answer y.check) ys x
+
+-- its rows have a price all along
+priced_on : (version : Version) (xs : List Adjusted) → FollowOn version xs → totals_of version.lines version.extras ≡ Ok version.totals
+    → totals_of (behind version xs).lines (behind version xs).extras ≡ Ok (behind version xs).totals
+priced_on version [] all price = price
+priced_on version (x ∷ xs) all price = priced_on (adjusted version x.answer x.check) xs all.1 all.0.price
 
 some_lines : (lines : List Line) → lines ≢ [] → has_none lines ≡ false
 some_lines [] has = absurd (has refl)
 some_lines (line ∷ lines) has = refl
 
-next_level : (lines : List Line) (level : ℕ) → has_none lines ≡ false → answered_level lines level ≡ level + 1
-next_level lines level e = ap (λ (b : Bool). if b then level else level + 1) e
-
--- the levels count up, and the delivery stays
-last_is : (before : Proposal) (xs : List Adjusted) → FollowOn before xs → last_of before xs ≡ record { number = before.number; level = before.level + length xs; check = last_check before.check xs }
-last_is before [] all = ap (λ (n : ℕ). (let p : Proposal = record { number = before.number; level = n; check = before.check } in p)) (omega arith)
-last_is before (x ∷ xs) all =
-    let level : x.answer.level ≡ before.level + 1 = all.1.level ∙ next_level x.answer.lines before.level (some_lines x.answer.lines all.0) in
-    let count : x.answer.level + length xs ≡ before.level + length (x ∷ xs) = omega arith in
-    last_is (proposal_by x) xs all.2
-    ∙ ap (λ (n : List ℕ). (let p : Proposal = record { number = n; level = x.answer.level + length xs; check = last_check x.check xs } in p)) all.1.number
-    ∙ ap (λ (n : ℕ). (let p : Proposal = record { number = before.number; level = n; check = last_check x.check xs } in p)) count
-
-last_check_more : (check : ℕ) (xs : List Adjusted) (x : Adjusted) → last_check check (xs ++ x ∷ []) ≡ x.check
-last_check_more check [] x = refl
-last_check_more check (y ∷ ys) x = last_check_more y.check ys x
+next_level : (version : Version) (answer : AnswerRecord) → Follows version answer → answer.level ≡ version.level + 1
+next_level version answer f = f.applies.named.level ∙ ap (λ (b : Bool). if b then version.level else version.level + 1) (some_lines answer.lines f.adjusts)
 
 changed_on : (lines first second : List Line) → changed lines (first ++ second) ≡ changed (changed lines first) second
 changed_on lines [] second = refl
 changed_on lines (line ∷ first) second = changed_on (put lines line) first second
 
-abbrev own_lines : Adjusted → List Line
-own_lines adjusted = adjusted.answer.lines
+-- the version that has come to these lines, totals, level and check
+abbrev become : Version → List Line → Totals → ℕ → ℕ → Version
+become version lines totals level check = record version { lines = lines; totals = totals; level = level; check = check }
 
-all_lines : (xs : List Adjusted) (x : Adjusted) → flat_map own_lines (xs ++ x ∷ []) ≡ flat_map own_lines xs ++ x.answer.lines
-all_lines [] x = append-nil x.answer.lines
-all_lines (y ∷ ys) x = ap (λ (t : List Line). y.answer.lines ++ t) (all_lines ys x) ∙ sym (append_assoc y.answer.lines (flat_map own_lines ys) x.answer.lines)
+-- the lines are changed in turn, the levels count up, and the check is the last one
+behind_is : (version : Version) (xs : List Adjusted) → FollowOn version xs
+    → behind version xs ≡ become version (changed version.lines (flat_map own_lines xs)) (behind version xs).totals (version.level + length xs) (last_check version.check xs)
+behind_is version [] all = ap (λ (n : ℕ). become version version.lines version.totals n version.check) (omega arith)
+behind_is version (x ∷ xs) all =
+    let level : x.answer.level ≡ version.level + 1 = next_level version x.answer all.0 in
+    let count : x.answer.level + length xs ≡ version.level + length (x ∷ xs) = omega arith in
+    let next : Version = adjusted version x.answer x.check in
+    behind_is next xs all.1
+    ∙ ap (λ (lines : List Line). become version lines (behind next xs).totals (x.answer.level + length xs) (last_check x.check xs)) (sym (changed_on version.lines x.answer.lines (flat_map own_lines xs)))
+    ∙ ap (λ (n : ℕ). become version (changed version.lines (flat_map own_lines (x ∷ xs))) (behind next xs).totals n (last_check x.check xs)) count
 
-length_more : (xs : List Adjusted) (x : Adjusted) → length (xs ++ x ∷ []) ≡ length xs + 1
-length_more [] x = refl
-length_more (y ∷ ys) x = let more = length_more ys x in omega arith
+-- ---- the version of a chain
 
 none_more : (n : ℕ) → 0 + n ≡ n
 none_more n = omega arith
 
--- ---- the version
+-- it is the version behind the adjustments of the chain
+chain_makes : (chain : Chain) → (is : IsChained chain) → version_of chain ≡ Some (behind (version_with (chain_from chain.base chain.check) is.totals) chain.adjustments)
+chain_makes chain is =
+    let first : Version = version_with (chain_from chain.base chain.check) is.totals in
+    let last : Version = behind first chain.adjustments in
+    let made : last ≡ become first (lines_of chain) last.totals (0 + length chain.adjustments) (last_check chain.check chain.adjustments) = behind_is first chain.adjustments is.follow in
+    let whole : last ≡ version_with chain last.totals = made ∙ ap (λ (n : ℕ). become first (lines_of chain) last.totals n (last_check chain.check chain.adjustments)) (none_more (length chain.adjustments)) in
+    let price : totals_of (lines_of chain) chain.base.extras ≡ Ok last.totals =
+    subst (λ (v : Version). totals_of v.lines v.extras ≡ Ok last.totals) whole (priced_on first chain.adjustments is.follow is.price) in
+    ap (λ (r : Result Totals PriceFault). option_map (version_with chain) (result_ok r)) price ∙ ap (λ (v : Version). Some v) (sym whole)
 
-lines_more : (chain : Chain) (x : Adjusted) → lines_of (with_adjusted chain x) ≡ changed (lines_of chain) x.answer.lines
-lines_more chain x = ap (changed chain.base.lines) (all_lines chain.adjustments x) ∙ changed_on chain.base.lines (flat_map own_lines chain.adjustments) x.answer.lines
+same_version : (a b : Version) → Some a ≡ Some b → a ≡ b
+same_version a b e = cc
 
-version_more : (chain : Chain) (answer : AnswerRecord) (check : ℕ) → answer.level ≡ length chain.adjustments + 1
-    → adjusted (version_of chain) answer check ≡ version_of (with_adjusted chain (record { answer = answer; check = check }))
-version_more chain answer check level =
+pub goes_on : (old new : Version) (answer : AnswerRecord) (check : ℕ) → answer.amount ≤ MOST_CENTS → Applies old answer → new ≡ applied old answer check → answer.lines ≢ [] → GoesOn old new (record { answer = answer; check = check })
+goes_on old new answer check low applies made has chain is of_chain =
     let x : Adjusted = record { answer = answer; check = check } in
-    ap (λ (ls : List Line). record (version_of chain) { lines = ls; totals = totals_by ls chain.base.extras; level = answer.level; check = check }) (sym (lines_more chain x))
-    ∙ ap (λ (n : ℕ). record (version_of chain) { lines = lines_of (with_adjusted chain x); totals = totals_by (lines_of (with_adjusted chain x)) chain.base.extras; level = n; check = check }) (level ∙ sym (length_more chain.adjustments x))
-    ∙ ap (λ (n : ℕ). record (version_of chain) { lines = lines_of (with_adjusted chain x); totals = totals_by (lines_of (with_adjusted chain x)) chain.base.extras; level = length (with_adjusted chain x).adjustments; check = n }) (sym (last_check_more chain.check chain.adjustments x))
-
-goes_on : (old new : Version) (answer : AnswerRecord) (check : ℕ) → Applies old answer → new ≡ applied old answer check → answer.lines ≢ [] → GoesOn old new (record { answer = answer; check = check })
-goes_on old new answer check applies made has chain chained is =
-    let x : Adjusted = record { answer = answer; check = check } in
-    let some : has_none answer.lines ≡ false = some_lines answer.lines has in
-    let named : Names answer (proposal_of (version_of chain)) = subst (λ (v : Version). Names answer (proposal_of v)) is applies.named in
-    let last : last_of (base_proposal chain) chain.adjustments ≡ proposal_of (version_of chain) =
-    last_is (base_proposal chain) chain.adjustments chained
-    ∙ ap (λ (n : ℕ). (let p : Proposal = record { number = chain.base.number; level = n; check = last_check chain.check chain.adjustments } in p)) (none_more (length chain.adjustments)) in
-    let level : answer.level ≡ length chain.adjustments + 1 = named.level ∙ next_level answer.lines (length chain.adjustments) some in (
-      follow_more (base_proposal chain) chain.adjustments x chained has (subst (Names answer) (sym last) named),
-      made ∙ ap (λ (b : Bool). if b then old else adjusted old answer check) some ∙ ap (λ (v : Version). adjusted v answer check) is ∙ version_more chain answer check level,
+    let first : Version = version_with (chain_from chain.base chain.check) is.totals in
+    let last : old ≡ behind first chain.adjustments = same_version old (behind first chain.adjustments) (sym of_chain ∙ chain_makes chain is) in
+    let follows : Follows old answer = record { adjusts = has; applies = applies; price = price_behind old answer low applies } in
+    let on : IsChained (with_adjusted chain x) =
+    record { totals = is.totals; price = is.price; follow = follow_more first chain.adjustments x is.follow (subst (λ (v : Version). Follows v answer) last follows) } in
+    let step : new ≡ adjusted old answer check = made ∙ ap (λ (b : Bool). if b then old else adjusted old answer check) (some_lines answer.lines has) in (
+      on,
+      chain_makes (with_adjusted chain x) on ∙ ap (λ (v : Version). Some v) (behind_more first chain.adjustments x ∙ ap (λ (v : Version). adjusted v answer check) (sym last) ∙ sym step),
     )
 
 -- what a call says of chains
-pub chain_kept : (answer : Result (Unit {0}) ApplyFault) (old new : Version) (given : AnswerRecord) (check : ℕ) → Refuses answer (apply_fault old given) (λ _. new ≡ applied old given check)
-    → given.lines ≢ [] → OnOk answer (GoesOn old new (record { answer = given; check = check }))
-chain_kept (Ok done) old new given check is has = goes_on old new given check (faultless old given is.0) is.1 has
-chain_kept (Err fault) old new given check is has = tt
+pub chain_kept : (result : Result (Unit {0}) ApplyFault) (old new : Version) (answer : AnswerRecord) (check : ℕ) → answer.amount ≤ MOST_CENTS → Refuses result (apply_fault old answer) (λ _. new ≡ applied old answer check)
+    → answer.lines ≢ [] → OnOk result (GoesOn old new (record { answer = answer; check = check }))
+chain_kept (Ok done) old new answer check low is has = goes_on old new answer check low (faultless old answer is.0) is.1 has
+chain_kept (Err fault) old new answer check low is has = tt
 
 -- ---- the levels
 
-levels_from : (before : Proposal) (xs : List Adjusted) → FollowOn before xs → map (λ (adjusted : Adjusted). adjusted.answer.level) xs ≡ range_with_len (before.level + 1) (length xs)
-levels_from before [] all = refl
-levels_from before (x ∷ xs) all =
-    let level : x.answer.level ≡ before.level + 1 = all.1.level ∙ next_level x.answer.lines before.level (some_lines x.answer.lines all.0) in
-    ap (λ (ns : List ℕ). x.answer.level ∷ ns) (levels_from (proposal_by x) xs all.2) ∙ ap (λ (n : ℕ). n ∷ range_with_len (n + 1) (length xs)) level
+levels_from : (version : Version) (xs : List Adjusted) → FollowOn version xs → map (λ (adjustment : Adjusted). adjustment.answer.level) xs ≡ range_with_len (version.level + 1) (length xs)
+levels_from version [] all = refl
+levels_from version (x ∷ xs) all =
+    let level : x.answer.level ≡ version.level + 1 = next_level version x.answer all.0 in
+    ap (λ (ns : List ℕ). x.answer.level ∷ ns) (levels_from (adjusted version x.answer x.check) xs all.1) ∙ ap (λ (n : ℕ). n ∷ range_with_len (n + 1) (length xs)) level
 
-pub levels_count : (chain : Chain) → IsChained chain → map (λ (adjusted : Adjusted). adjusted.answer.level) chain.adjustments ≡ range_with_len 1 (length chain.adjustments)
-levels_count chain chained = levels_from (base_proposal chain) chain.adjustments chained
+pub levels_count : (chain : Chain) → IsChained chain → map (λ (adjustment : Adjusted). adjustment.answer.level) chain.adjustments ≡ range_with_len 1 (length chain.adjustments)
+levels_count chain is = levels_from (version_with (chain_from chain.base chain.check) is.totals) chain.adjustments is.follow

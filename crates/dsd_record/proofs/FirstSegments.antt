@@ -14,7 +14,7 @@ use Rattle.segments.proofs.Small.{bytes_are}
 use Rattle.segments.proofs.Spelled.{next_front}
 use Rattle.segments.proofs.Whole.{and_both}
 use Rattle.dsd_record.specs.SetTexts.{BeginsAs, begins_as, starts}
-use Rattle.dsd_record.proofs.KindsById.{start_of_kind}
+use Rattle.segments.proofs.KindsById.{start_of_kind}
 
 -- ---- the start of a set
 

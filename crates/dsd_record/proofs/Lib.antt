@@ -1,9 +1,12 @@
-pub mod KindsById
 pub mod FirstSegments
 pub mod Sets
+pub mod ReadOnce
 pub mod Changed
-pub mod Sounding
+pub mod Counted
 pub mod AfterChanges
+pub mod Prices
+pub mod Stated
+pub mod Answered
 pub mod Versions
 pub mod Faults
 pub mod Chains

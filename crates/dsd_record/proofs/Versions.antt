@@ -1,11 +1,11 @@
 -- Versions that are right: the first, and what an answer leaves.
-use Rattle.std.proofs.Common.{◌≡◌, ◌≤◌, ℕ, ℤ, pos, Bool, true, false, if◌then◌else◌, int_lt, List, [], ◌∷◌, length, Ok, Err, Result, unsigned_abs, refl, sym, ap, ◌∙◌}
+use Rattle.std.proofs.Common.{◌≡◌, ◌≤◌, ℕ, pos, true, List, [], ◌∷◌, length, Option, Some, Ok, Result, option_map, refl, sym, ap, ◌∙◌}
 use Rattle.std.specs.List.{All}
+use Rattle.std.specs.Result.{result_ok}
 use Rattle.std.proofs.lemmas.List.Elements.{All-same}
 use Rattle.dsd_pricing.specs.Pricing.{priced, quantities, totals_of}
 use Rattle.dsd_pricing.specs.declared.amounts.Totals.{Totals}
 use Rattle.dsd_pricing.specs.declared.fault.PriceFault.{PriceFault}
-use Rattle.dsd_pricing.specs.declared.fault.PriceFault.TheVariants.{Negative, TooLarge}
 use Rattle.dsd_values.specs.Calendar.{Date}
 use Rattle.dsd_values.specs.declared.cents.TheConstants.Cents.{MAX as MOST_CENTS}
 use Rattle.dsd_values.specs.declared.extra.Extra.{Extra}
@@ -15,55 +15,40 @@ use Rattle.dsd_values.specs.declared.line.Line.{Line}
 use Rattle.segments.specs.Extras.{HasExtras}
 use Rattle.base_record_894.specs.BaseRecord.{BaseRecord}
 use Rattle.base_record_894.specs.RecordText.{IsBase}
-use Rattle.base_record_894.proofs.Amounts.{amount_is, priced_totals, totals_priced}
+use Rattle.base_record_894.proofs.Amounts.{totals_priced}
+use Rattle.base_record_894.proofs.Made.{base_lines}
 use Rattle.adjustment_895.specs.AnswerRecord.{AnswerRecord}
 use Rattle.adjustment_895.specs.AnswerText.{IsAnswer}
 use Rattle.adjustment_895.specs.Grammar.{has_none}
-use Rattle.dsd_record.specs.Applying.{Applies, adjusted, lines_after, rows_fault, totals_fault}
-use Rattle.dsd_record.specs.Chain.{chain_from, version_of}
+use Rattle.adjustment_895.proofs.Made.{answer_lines}
+use Rattle.dsd_record.specs.Applying.{Applies, adjusted, lines_after, rows_fault, stated_by, totals_fault}
+use Rattle.dsd_record.specs.Chain.{chain_from, version_of, version_with}
 use Rattle.dsd_record.specs.LineChanges.{changed}
-use Rattle.dsd_record.specs.SoundLines.{IsSoundLine}
-use Rattle.dsd_record.specs.Version.{IsVersion, Version, totals_by}
+use Rattle.segments.specs.SoundLines.{IsSoundLine}
+use Rattle.dsd_record.specs.Version.{IsVersion, Version}
 use Rattle.dsd_record.specs.declared.fault.ApplyFault.TheVariants.{Limit}
 use Rattle.dsd_record.proofs.Changed.{all_changed, apart_changed}
 use Rattle.dsd_record.proofs.Faults.{enough_few, held, second_after}
-use Rattle.dsd_record.proofs.Sounding.{answer_lines, base_lines}
+use Rattle.dsd_record.proofs.Prices.{price_behind, quantity_kept}
 
 -- ---- the first version
 
--- rows that have totals have those that they come to
-pub price_by : (lines : List Line) (extras : List Extra) (quantity amount : ℕ) → totals_of lines extras ≡ Ok (record { quantity = quantity; amount = amount })
-    → totals_of lines extras ≡ Ok (record { quantity = quantity; amount = unsigned_abs (priced lines extras) })
-price_by lines extras quantity amount e =
-    e ∙ ap (λ (n : ℕ). (let r : Result Totals PriceFault = Ok (record { quantity = quantity; amount = n }) in r)) (amount_is amount (priced lines extras) (totals_priced lines extras quantity amount e))
-
-pub first_right : (base : BaseRecord) (check : ℕ) → IsBase base → IsVersion (version_of (chain_from base check))
-first_right base check is = record {
-  sound = is.sound;
-  each = (base_lines base is).sound;
-  price = price_by base.lines base.extras (quantities base.lines) is.amount is.price;
-}
+pub first_right : (base : BaseRecord) (check : ℕ) (totals : Totals) → IsBase base → totals_of base.lines base.extras ≡ Ok totals → IsVersion (version_with (chain_from base check) totals)
+first_right base check totals is price = record { sound = is.sound; each = (base_lines base is).sound; price = price }
 
 -- what was put together field by field
 pub first_is : (base : BaseRecord) (flag : Flag) (number : List ℕ) (day : Date) (lines : List Line) (extras : List Extra) (totals : Totals) (level check : ℕ)
-    → flag ≡ base.flag → number ≡ base.number → day ≡ base.day → lines ≡ base.lines → extras ≡ base.extras → totals ≡ totals_by base.lines base.extras → level ≡ 0
-    → record { flag = flag; number = number; day = day; lines = lines; extras = extras; totals = totals; level = level; check = check } ≡ version_of (chain_from base check)
-first_is base flag number day lines extras totals level check f n d l x t z = rw (f, n, d, l, x, t, z) refl
+    → flag ≡ base.flag → number ≡ base.number → day ≡ base.day → lines ≡ base.lines → extras ≡ base.extras → level ≡ 0
+    → record { flag = flag; number = number; day = day; lines = lines; extras = extras; totals = totals; level = level; check = check } ≡ version_with (chain_from base check) totals
+first_is base flag number day lines extras totals level check f n d l x z = rw (f, n, d, l, x, z) refl
+
+-- is the version of its base record
+pub first_made : (base : BaseRecord) (version : Version) (check : ℕ) (totals : Totals) → version ≡ version_with (chain_from base check) totals → totals_of base.lines base.extras ≡ Ok totals
+    → version_of (chain_from base check) ≡ Some version
+first_made base version check totals is price =
+    ap (λ (r : Result Totals PriceFault). option_map (version_with (chain_from base check)) (result_ok r)) price ∙ ap (λ (v : Version). Some v) (sym is)
 
 -- ---- the kept totals
-
-abbrev by_tests : Bool → Bool → ℕ → ℤ → Result Totals PriceFault
-by_tests below above quantity sum = if below then Err (Negative sum) else (if above then Err (TooLarge sum) else Ok (record { quantity = quantity; amount = unsigned_abs sum }))
-
-quantity_in : (below above : Bool) (quantity : ℕ) (sum : ℤ) (totals : Totals) → by_tests below above quantity sum ≡ Ok totals → totals.quantity ≡ quantity
-quantity_in true above quantity sum totals e = cc
-quantity_in false true quantity sum totals e = cc
-quantity_in false false quantity sum totals e =
-    let same : record { quantity = quantity; amount = unsigned_abs sum } ≡ totals = cc (e) in
-    ap (λ (t : Totals). t.quantity) (sym same)
-
-quantity_kept : (lines : List Line) (extras : List Extra) (totals : Totals) → totals_of lines extras ≡ Ok totals → totals.quantity ≡ quantities lines
-quantity_kept lines extras totals e = quantity_in (int_lt (priced lines extras) (pos 0)) (int_lt (pos MOST_CENTS) (priced lines extras)) (quantities lines) (priced lines extras) totals e
 
 no_lines : (lines : List Line) → has_none lines ≡ true → lines ≡ []
 no_lines [] e = refl
@@ -95,18 +80,11 @@ adjusted_right version answer check is given low applies = record {
     beside = is.sound.beside;
   };
   each = all_changed IsSoundLine version.lines answer.lines is.each (answer_lines answer given).sound;
-  price = price_by (lines_after version answer) version.extras (quantities (lines_after version answer)) answer.amount (priced_totals (lines_after version answer) version.extras answer.amount low applies.amount);
+  price = price_behind version answer low applies;
 }
 
 -- what was changed field by field
 pub adjusted_is : (old version : Version) (answer : AnswerRecord) (lines : List Line) (quantity amount level check : ℕ)
-    → old ≡ version → lines ≡ lines_after version answer → quantity ≡ answer.quantity → amount ≡ answer.amount → level ≡ answer.level → Applies version answer
+    → old ≡ version → lines ≡ lines_after version answer → quantity ≡ answer.quantity → amount ≡ answer.amount → level ≡ answer.level
     → record old { lines = lines; totals = record { quantity = quantity; amount = amount }; level = level; check = check } ≡ adjusted version answer check
-adjusted_is old version answer lines quantity amount level check v l q a n applies =
-    let number : quantity ≡ quantities (lines_after version answer) = q ∙ applies.quantity in
-    let cents : amount ≡ unsigned_abs (priced (lines_after version answer) version.extras) = a ∙ amount_is answer.amount (priced (lines_after version answer) version.extras) applies.amount in
-    ap (λ (o : Version). record o { lines = lines; totals = record { quantity = quantity; amount = amount }; level = level; check = check }) v
-    ∙ ap (λ (x : List Line). record version { lines = x; totals = record { quantity = quantity; amount = amount }; level = level; check = check }) l
-    ∙ ap (λ (x : ℕ). record version { lines = lines_after version answer; totals = record { quantity = x; amount = amount }; level = level; check = check }) number
-    ∙ ap (λ (x : ℕ). record version { lines = lines_after version answer; totals = record { quantity = quantities (lines_after version answer); amount = x }; level = level; check = check }) cents
-    ∙ ap (λ (x : ℕ). record version { lines = lines_after version answer; totals = totals_by (lines_after version answer) version.extras; level = x; check = check }) n
+adjusted_is old version answer lines quantity amount level check v l q a n = rw (v, l, q, a, n) refl

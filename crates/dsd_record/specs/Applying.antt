@@ -2,6 +2,7 @@
 use Rattle.std.specs.Prelude.{◌≡◌, ◌⊎◌, ◌≤◌, ℕ, ℤ, pos, ◌==◌, nat_le, Bool, true, false, ◌&&◌, if◌then◌else◌, bytes_eq, List, length, Option, Some, None, Result, Ok, Err}
 use Rattle.std.specs.Ordering.{int_eq}
 use Rattle.dsd_pricing.specs.Pricing.{priced, quantities}
+use Rattle.dsd_pricing.specs.declared.amounts.Totals.{Totals}
 use Rattle.dsd_values.specs.declared.extra.Extra.{Extra}
 use Rattle.dsd_values.specs.declared.flag.Flag.{Flag}
 use Rattle.dsd_values.specs.declared.flag.Flag.TheVariants.{Credit, Debit}
@@ -12,13 +13,17 @@ use Rattle.adjustment_895.specs.AnswerRecord.{AnswerRecord}
 use Rattle.adjustment_895.specs.Grammar.{has_none}
 use Rattle.dsd_record.specs.LineChanges.{changed}
 use Rattle.dsd_record.specs.Naming.{Names, answered_level, proposal_of}
-use Rattle.dsd_record.specs.Version.{Version, totals_by}
+use Rattle.dsd_record.specs.Version.{Version}
 use Rattle.dsd_record.specs.declared.fault.ApplyFault.{ApplyFault}
 use Rattle.dsd_record.specs.declared.fault.ApplyFault.TheVariants.{Limit, Memory, TotalsDiffer, WrongCheck, WrongDelivery, WrongLevel}
 
 -- the lines behind the answer, of which an acknowledgement changes none
 abbrev pub lines_after : Version → AnswerRecord → List Line
 lines_after version answer = changed version.lines answer.lines
+
+-- the totals that the answer states
+abbrev pub stated_by : AnswerRecord → Totals
+stated_by answer = record { quantity = answer.quantity; amount = answer.amount }
 
 -- ---- when it applies
 
@@ -75,11 +80,11 @@ refused_by None = Ok tt
 
 -- ---- what then stands
 
--- what an adjustment makes, which has this integrity value
+-- what an adjustment makes, which has this integrity value: where it applies, its lines come to the totals that it states
 abbrev pub adjusted : Version → AnswerRecord → ℕ → Version
 adjusted version answer check = record version {
   lines = lines_after version answer;
-  totals = totals_by (lines_after version answer) version.extras;
+  totals = stated_by answer;
   level = answer.level;
   check = check;
 }

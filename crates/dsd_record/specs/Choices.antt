@@ -1,9 +1,9 @@
 -- What an end chooses, as plain data: code and definitions above take its choices as this.
 use Rattle.std.specs.Prelude.{◌≡◌, ◌<◌, ℕ, Bool, false, List, [], ◌∷◌, length, bytes_eq, Option}
 use Rattle.std.specs.List.{list_any}
-use Rattle.dsd_values.specs.declared.signature.Signature.{Signature}
+use Rattle.dsd_values.specs.SignatureRecord.{SignatureRecord}
 use Rattle.base_record_894.specs.BaseRecord.{BaseRecord}
-use Rattle.dsd_record.specs.SoundLines.{AreSoundLines}
+use Rattle.segments.specs.SoundLines.{AreSoundLines}
 use Rattle.dsd_record.specs.Version.{Version}
 use Rattle.dsd_record.specs.declared.choice.Choice.{Choice}
 use Rattle.dsd_record.specs.declared.choice.Choice.TheVariants as choices
@@ -14,7 +14,7 @@ pub record Chooser : Type 0 where
   -- what it does on a proposal of the partner, where its own last one of the delivery came to so many cents, if it made one
   pub choice : Version → Option ℕ → Choice
   -- what a delivery with this number is signed with
-  pub signature : List ℕ → Option Signature
+  pub signature : List ℕ → Option SignatureRecord
 
 -- ---- which choices may be made
 

@@ -1,9 +1,9 @@
 pub mod LineChanges
 pub mod SetTexts
+pub mod ReadSets
 pub mod Version
 pub mod Naming
-pub mod Chain
 pub mod Applying
-pub mod SoundLines
+pub mod Chain
 pub mod Choices
 pub mod ChangedPrice

@@ -1,13 +1,13 @@
 -- What a version of a delivery is: what both ends agree on after the base record and some adjustments.
-use Rattle.std.specs.Prelude.{◌≡◌, ℕ, List, All, Ok, unsigned_abs}
-use Rattle.dsd_pricing.specs.Pricing.{priced, quantities, totals_of}
+use Rattle.std.specs.Prelude.{◌≡◌, ℕ, List, All, Ok}
+use Rattle.dsd_pricing.specs.Pricing.{totals_of}
 use Rattle.dsd_pricing.specs.declared.amounts.Totals.{Totals}
 use Rattle.dsd_values.specs.Calendar.{Date}
 use Rattle.dsd_values.specs.declared.extra.Extra.{Extra}
 use Rattle.dsd_values.specs.declared.flag.Flag.{Flag}
 use Rattle.dsd_values.specs.declared.line.Line.{Line}
 use Rattle.segments.specs.Grammar.{IsSound}
-use Rattle.dsd_record.specs.SoundLines.{IsSoundLine}
+use Rattle.segments.specs.SoundLines.{IsSoundLine}
 
 pub record Version : Type 0 where
   pub flag : Flag
@@ -20,10 +20,6 @@ pub record Version : Type 0 where
   pub level : ℕ
   -- the integrity value of the set that made it
   pub check : ℕ
-
--- the totals that these rows have, where they have some
-abbrev pub totals_by : List Line → List Extra → Totals
-totals_by lines extras = record { quantity = quantities lines; amount = unsigned_abs (priced lines extras) }
 
 -- the rows of a version are such as sets may state, and its totals are what they come to
 pub record IsVersion (version : Version) : Type 0 where

@@ -20,7 +20,9 @@ pub(crate) fn changed_lines(
     ensures list { IfOk result (λ after. values after ≡ changed (values lines.now) changes.now) }
 {
     let changes = changes.as_slice();
-    let mut after = IndexMap::with_capacity(alloc, lines.len() + changes.len())?;
+    // Most changes take the place of a line, and a map that needs more room grows.
+    let room = lines.len().max(changes.len());
+    let mut after = IndexMap::with_capacity(alloc, room)?;
     put_lines(alloc, &mut after, lines.values().as_slice())?;
     put_lines(alloc, &mut after, changes)?;
     Ok(after)

@@ -13,10 +13,10 @@ pub enum ApplyFault {
     #[error("another delivery")]
     WrongDelivery,
     /// It states a level that does not follow from the kept one.
-    #[error("the level is not that of an answer to the kept one")]
+    #[error("level {said} is not that of an answer to the kept level {kept}")]
     WrongLevel { kept: Level, said: Level },
     /// It names a set with another check.
-    #[error("the set that is named is not the kept one")]
+    #[error("the set with check {said} is named, and the kept one has {kept}")]
     WrongCheck { kept: Check, said: Check },
     /// So many lines would stand.
     #[error("{0} lines are too many")]

@@ -1,8 +1,10 @@
 //! Reading a set of either form from its text.
 
-ghost use Rattle.std.specs.Prelude.{◌≡◌, length, IfOk, None};
+ghost use Rattle.std.specs.Prelude.{◌≡◌, ◌<◌, ◌≤◌, length, IfOk, None, OnOk, Some};
+ghost use Rattle.dsd_values.specs.declared.limits.TheConstants.{SET_BYTES};
 ghost use Rattle.segments.specs.Refusal.{Answers, IsWithin};
 ghost use Rattle.segments.specs.declared.kind.Form.TheVariants as forms;
+ghost use Rattle.dsd_record.specs.ReadSets.{set_in};
 ghost use Rattle.dsd_record.specs.SetTexts.{IsSet, begins_as, set_refusal};
 ghost use Rattle.dsd_record.specs.declared.set_view.SetView.{SetView as Set};
 
@@ -16,6 +18,8 @@ use std::alloc::Global;
 pub fn set_of(alloc: Global, text: &[u8]) -> Result<SetView, SetFault>
     // What is read is spelled so.
     ensures found { IfOk result (λ set. IsSet set text.now) }
+    ensures read { IfOk result (λ set. set_in text.now ≡ Some set) }
+    ensures sized { OnOk result ((0 < length text.now) × (length text.now ≤ SET_BYTES)) }
 
     // What is spelled so is read, unless memory runs out.
     ensures only { (set : Set) → IsSet set text.now → Answers result None (λ x. x ≡ set) }

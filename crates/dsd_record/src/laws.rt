@@ -11,11 +11,7 @@ ghost use Rattle.segments.specs.declared.kind.Form.{Form};
 ghost use Rattle.segments.specs.declared.kind.Form.TheVariants as forms;
 ghost use Rattle.segments.specs.declared.segment_fault.SegmentFault.{SegmentFault};
 ghost use Rattle.segments.specs.declared.set_fault.SetReason.TheVariants as reasons;
-ghost use Rattle.base_record_894.specs.BaseRecord.{BaseRecord};
-ghost use Rattle.base_record_894.specs.RecordText.{IsBase};
-ghost use Rattle.adjustment_895.specs.AnswerRecord.{AnswerRecord};
-ghost use Rattle.adjustment_895.specs.AnswerText.{IsAnswer};
-ghost use Rattle.dsd_record.specs.SoundLines.{AreSoundLines};
+ghost use Rattle.dsd_record.specs.ReadSets.{set_in};
 ghost use Rattle.dsd_record.specs.SetTexts.{BeginsAs, IsSet, begins_as, form_of, set_refusal};
 ghost use Rattle.dsd_record.specs.declared.set_view.SetView.{SetView};
 
@@ -28,6 +24,12 @@ pub fn one_set()
 pub fn set_or_refusal()
     ensures spelled { (text : List ℕ) → set_refusal text ≡ None → (set : SetView) × IsSet set text }
     ensures refused { (text : List ℕ) (refusal : Refusal) → set_refusal text ≡ Some refusal → (set : SetView) → IsSet set text → ⊥ }
+{}
+
+/// The set that is read of a text is the one that the text is, and none is read of a text with a refusal.
+pub fn set_in_is_the_set()
+    ensures read { (text : List ℕ) (set : SetView) → (set_in text ≡ Some set) ↔ IsSet set text }
+    ensures refused { (text : List ℕ) (refusal : Refusal) → set_refusal text ≡ Some refusal → set_in text ≡ None }
 {}
 
 /// A text begins as a set where an ST of it is spelled at its front, and each set begins as it is.
@@ -43,10 +45,4 @@ pub fn text_that_begins_no_set()
     ensures other { (text : List ℕ) (first : Seg) (behind : Left) → IsFront first (text_start text) behind → is_start_of forms.Base first ≡ false → is_start_of forms.Answer first ≡ false
         → set_refusal text ≡ Some (record { place = 0; reason = reasons.Order }) }
     ensures broken { (text : List ℕ) (fault : SegmentFault) → IsFault (text_start text) fault → set_refusal text ≡ Some (record { place = 0; reason = reasons.Segment fault }) }
-{}
-
-/// The lines of each set are sound, and no DSD number stands twice among them.
-pub fn lines_of_sets_are_sound()
-    ensures base { (base : BaseRecord) → IsBase base → AreSoundLines base.lines }
-    ensures answer { (answer : AnswerRecord) → IsAnswer answer → AreSoundLines answer.lines }
 {}

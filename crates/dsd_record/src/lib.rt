@@ -19,12 +19,15 @@ pub use draft_fault::{DraftFault, DraftReason};
 pub use fault::ApplyFault;
 pub use from_text::set_of;
 pub use laws::{
-    lines_of_sets_are_sound, one_set, set_begins_as_it_is, set_or_refusal, text_that_begins_no_set,
+    one_set, set_begins_as_it_is, set_in_is_the_set, set_or_refusal, text_that_begins_no_set,
 };
 pub use price_after::ChangeFault;
 pub use record::DsdRecord;
 pub use set_view::SetView;
-pub use version_laws::{answers_without_fault_apply, levels_of_a_chain};
+pub use version_laws::{
+    answers_at_their_price_apply, answers_without_fault_apply, chosen_lines_can_be_stated,
+    levels_of_a_chain,
+};
 
 #[cfg(test)]
 mod tests;

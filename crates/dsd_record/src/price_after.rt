@@ -1,10 +1,12 @@
 //! What a version would come to with changes.
 
-ghost use Rattle.std.specs.Prelude.{◌≡◌, All, IfErr, IfOk, false};
+ghost use Rattle.std.specs.Prelude.{◌≡◌, ◌≤◌, All, IfErr, IfOk, OnOk, false, length};
 ghost use Rattle.dsd_values.specs.Answers.{UnlessMemory};
+ghost use Rattle.dsd_values.specs.declared.limits.TheConstants.{MOST_LINES as MOST};
+ghost use Rattle.dsd_values.specs.declared.quantity.TheConstants.{MOST_TOTAL_QUANTITY};
 ghost use Rattle.segments.specs.Extras.{AreExtras, HasExtras};
 ghost use Rattle.dsd_record.specs.ChangedPrice.{IsPriceAfter, IsRefused, price_with, totals_within};
-ghost use Rattle.dsd_record.specs.SoundLines.{AreSoundLines};
+ghost use Rattle.segments.specs.SoundLines.{AreSoundLines};
 ghost use Rattle.dsd_record.specs.declared.price_after.ChangeFault.TheVariants.{Memory as WantOfMemory};
 
 use crate::changes::changed_lines;
@@ -45,7 +47,13 @@ impl DsdRecord {
         // What is answered, and what is refused, in the words of each.
         ensures found { IfOk result (IsPriceAfter self.now changes.now) }
         ensures refused { IfErr result (IsRefused self.now changes.now) }
+
+        // An answer may state these lines and totals.
+        ensures few { OnOk result (length changes.now ≤ MOST) }
+        ensures small { IfOk result (λ totals. totals.quantity ≤ MOST_TOTAL_QUANTITY) }
     {
+        // What a version keeps makes its lines sound.
+        let _ = self.lines();
         self.totals_after(alloc, changes)
     }
 

@@ -2,7 +2,7 @@
 
 mod applying;
 
-ghost use Rattle.std.specs.Prelude.{◌≡◌, ◌<◌, ◌≤◌, ◌↔◌, IfOk, Ok, IsSome, IsTrue, length, slice_get};
+ghost use Rattle.std.specs.Prelude.{◌≡◌, ◌<◌, ◌≤◌, ◌↔◌, IfOk, Ok, IsSome, IsTrue, Some, length, slice_get};
 ghost use Rattle.std.specs.Option.{option_copied};
 ghost use Rattle.indexmap.specs.IndexMap.{values};
 ghost use Rattle.dsd_pricing.specs.Pricing.{totals_of};
@@ -10,7 +10,7 @@ ghost use Rattle.dsd_values.specs.declared.limits.TheConstants.{MOST_LINES as MO
 ghost use Rattle.segments.specs.Reasons.{has_line};
 ghost use Rattle.dsd_record.specs.Chain.{chain_from, version_of};
 ghost use Rattle.dsd_record.specs.LineChanges.{line_under, numbered};
-ghost use Rattle.dsd_record.specs.Version.{IsVersion, totals_by};
+ghost use Rattle.dsd_record.specs.Version.{IsVersion};
 
 use crate::changes::changed_lines;
 use base_record_894::Base;
@@ -49,7 +49,7 @@ impl Model for DsdRecord {
 impl DsdRecord {
     /// The version of level 0 that a base record with this integrity value makes.
     pub fn from_base(alloc: Global, base: &Base, check: Check) -> Result<DsdRecord, Memory>
-        ensures { IfOk result (λ made. made ≡ version_of (chain_from base.now check)) }
+        ensures { IfOk result (λ made. version_of (chain_from base.now check) ≡ Some made) }
     {
         let none = IndexMap::new(alloc);
         Ok(DsdRecord {
@@ -165,7 +165,7 @@ impl DsdRecord {
 
 /// The totals of a base record.
 fn stated(base: &Base) -> Totals
-    ensures { result ≡ totals_by base.now.lines base.now.extras }
+    ensures { totals_of base.now.lines base.now.extras ≡ Ok result }
 {
     Totals {
         quantity: base.quantity(),

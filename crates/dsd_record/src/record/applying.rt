@@ -2,7 +2,6 @@
 
 ghost use Rattle.std.specs.Prelude.{◌≡◌, ◌≢◌, ◌≤◌, [], All, Ok, OnErr, OnOk, length, true, false};
 ghost use Rattle.adjustment_895.specs.Grammar.{has_none};
-ghost use Rattle.dsd_pricing.specs.Pricing.{quantities as sum_of_quantities};
 ghost use Rattle.dsd_values.specs.Answers.{UnlessMemory};
 ghost use Rattle.dsd_values.specs.declared.limits.TheConstants.{MOST_LINES as MOST};
 ghost use Rattle.segments.specs.Extras.{AreExtras, HasExtras};
@@ -15,7 +14,7 @@ use super::DsdRecord;
 use crate::changes::changed_lines;
 use crate::fault::ApplyFault;
 use adjustment_895::Answer895;
-use dsd_pricing::{Totals, sum_of};
+use dsd_pricing::{Totals, quantities, sum_of};
 use dsd_values::{Check, DsdNumber, Extra, Flag, Level, Line, MOST_LINES};
 use indexmap::IndexMap;
 
@@ -34,6 +33,8 @@ impl DsdRecord {
         // The version of a chain of proposals is then that of the chain with this adjustment.
         ensures chain { answer.now.lines ≢ [] → OnOk result (GoesOn self.old self.new (record { answer = answer.now; check = check })) }
     {
+        // What is stated is an amount that a price can be.
+        let _ = answer.amount();
         self.apply_by_faults(answer, check)
     }
 
@@ -154,16 +155,4 @@ fn compare(answer: &Answer895, quantity: u32, sum: i128) -> Result<(), ApplyFaul
         });
     }
     Ok(())
-}
-
-/// The sum of the quantities of these lines.
-fn quantities(lines: &[Line]) -> u32
-    requires { length lines.now ≤ MOST }
-    ensures { result ≡ sum_of_quantities lines.now }
-{
-    let mut sum = 0;
-    for line in lines {
-        sum += line.quantity.get();
-    }
-    sum
 }

@@ -1,26 +1,43 @@
-ghost use Rattle.std.specs.Prelude.{[], ◌∷◌, IfOk, None, Some, bytes_eq, if◌then◌else◌, refl};
+ghost use Rattle.std.specs.Prelude.{[], ◌∷◌, IfOk, None};
 ghost use Rattle.dsd_record.specs.Choices.{IsSoundChoice};
-ghost use Rattle.dsd_record.specs.declared.choice.Choice.TheVariants.{Accept};
+ghost use Rattle.dsd_record.specs.declared.choice.Choice.TheVariants.{Adjust};
 
-use super::sets::{ADJUSTMENT, DELIVERY};
-use super::*;
+use super::{ADJUSTMENT, DELIVERY, *};
 use adjustment_895::Answer895;
 use base_record_894::Base;
-use dsd_values::{Cents, DeliveryNumber, Memory, Signature};
+use dsd_values::{Cents, DeliveryNumber, Lines, Memory, Signature};
 use segments::Seal;
 use std::alloc::Global;
+use std::marker::Model;
 use std::test::Fail;
 
-/// Proposes one delivery, and accepts each proposal.
+/// Proposes one delivery, and adjusts each proposal by the same lines, which may be those of an adjustment.
 #[derive(Drop)]
-struct OneDraft {
+struct Insists {
     draft: Base,
+    lines: Lines,
 }
 
-impl Decider for OneDraft {
-    ghost chooser = { λ one. record { drafts = one.draft ∷ []; choice = λ _ _. Accept; signature = λ number. if bytes_eq number one.draft.number then Some one.draft.signature else None } };
+impl Model for Insists {
+    ghost use Rattle.std.specs.Prelude.{List};
+    ghost use Rattle.dsd_values.specs.declared.line.Line.{Line};
+    ghost use Rattle.base_record_894.specs.BaseRecord.{BaseRecord};
+    ghost use Rattle.dsd_record.specs.Choices.{IsSoundChoice};
+    ghost use Rattle.dsd_record.specs.declared.choice.Choice.TheVariants.{Adjust};
+
+    ghost Value = { BaseRecord × List Line };
+
+    ghost view = { λ insists. (insists.draft, insists.lines) };
+
+    ghost invariant = { λ insists. IsSoundChoice (Adjust insists.lines) };
+}
+
+impl Decider for Insists {
+    ghost chooser = { λ insists. record { drafts = insists.0 ∷ []; choice = λ _ _. Adjust insists.1; signature = λ _. None } };
 
     fn drafts(&self) -> usize {
+        // A base record is one that some text spells.
+        let _ = self.draft.extras();
         1
     }
 
@@ -28,26 +45,27 @@ impl Decider for OneDraft {
         if index == 0 { Some(&self.draft) } else { None }
     }
 
-    fn signature(&self, number: &DeliveryNumber) -> Option<&Signature> {
-        if number.as_slice() == self.draft.number().as_slice() {
-            Some(self.draft.signature())
-        } else {
-            None
-        }
+    fn signature(&self, _number: &DeliveryNumber) -> Option<&Signature> {
+        None
     }
 
     fn choose(
         &self,
-        _alloc: Global,
+        alloc: Global,
         _seen: &DsdRecord,
         _own_amount: Option<Cents>,
     ) -> Result<Choice, Memory> {
-        Ok(Choice::Accept)
+        Ok(Choice::Adjust(self.lines.try_copy(alloc)?))
     }
+}
 
-    ghost adjusts = { λ one version own_amount sound. tt };
-
-    ghost apart = { λ one. (refl, tt) };
+/// What a decider does on a version, which may be done by the clauses of all deciders.
+fn choice_on<D: Decider>(alloc: Global, decider: &D, version: &DsdRecord) -> Result<Choice, Memory>
+    ensures { IfOk result IsSoundChoice }
+{
+    // What a version keeps makes its lines sound.
+    let _ = version.lines();
+    decider.choose(alloc, version, None)
 }
 
 fn delivery(alloc: Global) -> Result<(Base, Seal), Fail> {
@@ -64,32 +82,31 @@ fn adjustment(alloc: Global) -> Result<Answer895, Fail> {
     }
 }
 
-/// What a decider does on a version, which may be done by the laws of all deciders.
-fn choice_on<D: Decider>(alloc: Global, decider: &D, version: &DsdRecord) -> Result<Choice, Memory>
-    ensures { IfOk result IsSoundChoice }
-{
-    // What a version keeps makes its lines sound.
-    let _ = version.lines();
-    decider.choose(alloc, version, None)
+/// One that insists on the lines of an answer, where it has some.
+fn insisting_on(alloc: Global, draft: Base, answer: &Answer895) -> Result<Insists, Fail> {
+    if answer.is_acknowledgement() {
+        return Err(Fail::from("no lines"));
+    }
+    let lines = answer.lines().try_copy(alloc)?;
+    Ok(Insists { draft, lines })
 }
 
-/// The quantity and the amount of a version with the lines of an answer.
-fn totals_with(alloc: Global, version: &DsdRecord, answer: &Answer895) -> Option<(u32, u64)> {
-    let totals = version.price_after(alloc, answer.lines()).ok()?;
+/// The quantity and the amount of a version with the lines that are chosen on it.
+fn totals_chosen(alloc: Global, decider: &Insists, version: &DsdRecord) -> Option<(u32, u64)> {
+    let Ok(Choice::Adjust(lines)) = choice_on(alloc, decider, version) else {
+        return None;
+    };
+    let totals = version.price_after(alloc, &lines).ok()?;
     Some((totals.quantity, totals.amount.get()))
 }
 
 #[test]
-fn changes_are_priced_before_they_stand(rt: HostRuntime) -> Result<(), Fail> {
+fn what_is_chosen_is_priced_before_it_stands(rt: HostRuntime) -> Result<(), Fail> {
     let alloc = rt.alloc();
     let (base, seal) = delivery(alloc)?;
-    let answer = adjustment(alloc)?;
-    let Ok(version) = DsdRecord::from_base(alloc, &base, seal.check) else {
-        return Err(Fail::from("no memory"));
-    };
-    assert!(rt; totals_with(alloc, &version, &answer) == Some((13, 1350)));
-    let decider = OneDraft { draft: base };
+    let version = DsdRecord::from_base(alloc, &base, seal.check)?;
+    let decider = insisting_on(alloc, base, &adjustment(alloc)?)?;
+    assert!(rt; totals_chosen(alloc, &decider, &version) == Some((13, 1350)));
     assert!(rt; decider.draft(0).is_some() && decider.draft(1).is_none());
-    assert!(rt; matches!(choice_on(alloc, &decider, &version), Ok(Choice::Accept)));
     Ok(())
 }

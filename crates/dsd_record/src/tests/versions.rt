@@ -1,9 +1,8 @@
-use super::sets::{ADJUSTMENT, DELIVERY};
-use super::*;
+use super::{ADJUSTMENT, DELIVERY, *};
 use adjustment_895::read_895;
 use base_record_894::read_894;
 use block_check::check_of;
-use dsd_values::DsdNumber;
+use dsd_values::{DsdNumber, Level};
 use std::alloc::Global;
 use std::test::Fail;
 
@@ -36,14 +35,6 @@ fn adjustment(alloc: Global, line: &str, totals: &str) -> Result<String, Fail> {
     Ok(format!(in alloc; "{front}G85*{check:04X}\r\nSE*9*0001\r\n")?)
 }
 
-/// The kept level and the one that was said, of a fault that tells them.
-fn levels_in(fault: ApplyFault) -> Option<(u8, u8)> {
-    match fault {
-        ApplyFault::WrongLevel { kept, said } => Some((kept.get(), said.get())),
-        _ => None,
-    }
-}
-
 /// Whether a version has this level, quantity and amount.
 fn stands_at(record: &DsdRecord, level: u8, quantity: u32, amount: u64) -> bool {
     let totals = record.totals();
@@ -56,59 +47,44 @@ fn has_line_at(record: &DsdRecord, index: usize, dsd: u16, quantity: u32) -> boo
 }
 
 #[test]
-fn an_adjustment_changes_its_line_and_an_acknowledgement_none(rt: HostRuntime) -> Result<(), Fail> {
-    let alloc = rt.alloc();
-    let mut record = delivered(alloc)?;
-    assert!(rt; stands_at(&record, 0, 15, 1600));
-    assert!(rt; applied(alloc, &mut record, ADJUSTMENT)?.is_none());
-    assert!(rt; stands_at(&record, 1, 13, 1350) && record.check().get() == 0xDB48);
-    assert!(rt; has_line_at(&record, 0, 1, 10) && has_line_at(&record, 1, 2, 3));
-    assert!(rt; applied(alloc, &mut record, ACKNOWLEDGEMENT)?.is_none());
-    let copy = record.try_copy(alloc)?;
-    assert!(rt;
-        stands_at(&copy, 1, 13, 1350) && copy.check().get() == 0xDB48 && copy.line_count() == 2
-    );
-    Ok(())
-}
-
-#[test]
-fn other_totals_are_refused_and_change_nothing(rt: HostRuntime) -> Result<(), Fail> {
-    let alloc = rt.alloc();
-    let mut record = delivered(alloc)?;
-    let text = adjustment(alloc, "1*10*EA*012345678905****1.25", "13*1351")?;
-    let fault = applied(alloc, &mut record, text.as_bytes())?;
-    assert!(rt;
-        matches!(
-            fault,
-            Some(ApplyFault::TotalsDiffer {
-                said: 1351,
-                computed: 1350
-            })
-        )
-    );
-    assert!(rt; stands_at(&record, 0, 15, 1600) && has_line_at(&record, 0, 1, 12));
-    Ok(())
-}
-
-#[test]
-fn an_acknowledgement_of_another_level_is_refused(rt: HostRuntime) -> Result<(), Fail> {
-    let alloc = rt.alloc();
-    let mut record = delivered(alloc)?;
-    let fault = applied(alloc, &mut record, ACKNOWLEDGEMENT)?.ok_or("taken")?;
-    assert_eq!(rt; levels_in(fault), Some((0, 1)));
-    Ok(())
-}
-
-#[test]
 fn a_line_with_a_new_number_goes_last(rt: HostRuntime) -> Result<(), Fail> {
     let alloc = rt.alloc();
     let mut record = delivered(alloc)?;
     let text = adjustment(alloc, "3*1*EA*012345678929****1", "16*1700")?;
     assert!(rt; applied(alloc, &mut record, text.as_bytes())?.is_none());
-    assert!(rt; stands_at(&record, 1, 16, 1700) && record.line_count() == 3);
-    assert!(rt; has_line_at(&record, 0, 1, 12) && has_line_at(&record, 2, 3, 1));
+    let copy = record.try_copy(alloc)?;
+    assert!(rt; stands_at(&copy, 1, 16, 1700) && copy.line_count() == 3);
+    assert!(rt; has_line_at(&copy, 0, 1, 12) && has_line_at(&copy, 2, 3, 1));
+    assert!(rt; matches!(copy.line_of(DsdNumber::new(3)), Some(line) if line.cost.get() == 10_000));
+    Ok(())
+}
+
+/// Whether an answer to the delivery is refused so, and leaves its version as it was.
+fn is_refused(alloc: Global, text: &[u8], fault: ApplyFault) -> Result<bool, Fail> {
+    let mut record = delivered(alloc)?;
+    let told = applied(alloc, &mut record, text)?;
+    Ok(told == Some(fault) && stands_at(&record, 0, 15, 1600) && has_line_at(&record, 0, 1, 12))
+}
+
+#[test]
+fn an_answer_that_does_not_apply_changes_nothing(rt: HostRuntime) -> Result<(), Fail> {
+    let alloc = rt.alloc();
+    let text = adjustment(alloc, "1*10*EA*012345678905****1.25", "13*1351")?;
+    let (said, computed) = (1351, 1350);
     assert!(rt;
-        matches!(record.line_of(DsdNumber::new(3)), Some(line) if line.cost.get() == 10_000)
+        is_refused(
+            alloc,
+            text.as_bytes(),
+            ApplyFault::TotalsDiffer { said, computed }
+        )?
+    );
+    let (kept, said) = (Level::new(0), Level::new(1));
+    assert!(rt;
+        is_refused(
+            alloc,
+            ACKNOWLEDGEMENT,
+            ApplyFault::WrongLevel { kept, said }
+        )?
     );
     Ok(())
 }

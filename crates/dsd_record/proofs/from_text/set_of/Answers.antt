@@ -1,6 +1,7 @@
 use Rattle.std.proofs.Common.{refl, sym}
 use Rattle.segments.proofs.Reading.{same_err}
 use Rattle.dsd_record.specs.declared.set_view.SetView.TheVariants as sets
+use Rattle.dsd_record.proofs.ReadOnce.{set_in_is, sized}
 use Rattle.dsd_record.proofs.Sets.{answer_only, base_only, one}
 use Rattle.dsd_record.proofs.from_text.set_of.Goals as goal
 
@@ -17,3 +18,15 @@ returns-in_err-base-clause-only c = λ set is.
 
 pub returns-clause-only : goal.returns-clause-only
 returns-clause-only c = λ set is. (refl, one c.args.text.now (sets.Base c.in_ok-base.base c.in_ok-base.seal) set c.in_ok-base.ensures.found is)
+
+pub returns-then-begins_as_answer-clause-read : goal.returns-then-begins_as_answer-clause-read
+returns-then-begins_as_answer-clause-read c = set_in_is c.args.text.now (sets.Answer c.in_ok-answer.answer c.in_ok-answer.seal) c.in_ok-answer.ensures.found
+
+pub returns-then-begins_as_answer-clause-sized : goal.returns-then-begins_as_answer-clause-sized
+returns-then-begins_as_answer-clause-sized c = sized c.args.text.now (sets.Answer c.in_ok-answer.answer c.in_ok-answer.seal) c.in_ok-answer.ensures.found
+
+pub returns-clause-read : goal.returns-clause-read
+returns-clause-read c = set_in_is c.args.text.now (sets.Base c.in_ok-base.base c.in_ok-base.seal) c.in_ok-base.ensures.found
+
+pub returns-clause-sized : goal.returns-clause-sized
+returns-clause-sized c = sized c.args.text.now (sets.Base c.in_ok-base.base c.in_ok-base.seal) c.in_ok-base.ensures.found

@@ -3,7 +3,7 @@ use Rattle.indexmap.specs.IndexMap.{values}
 use Rattle.dsd_record.specs.LineChanges.{numbered}
 use Rattle.dsd_record.specs.Version.{IsVersion}
 use Rattle.dsd_record.proofs.Changed.{made_of}
-use Rattle.dsd_record.proofs.Versions.{first_is, first_right}
+use Rattle.dsd_record.proofs.Versions.{first_is, first_made, first_right}
 use Rattle.dsd_record.proofs.record.DsdRecord.from_base.Goals as goal
 
 pub invariant_of-result : goal.invariant_of-result
@@ -13,12 +13,14 @@ invariant_of-result c =
       subst IsVersion
           (sym
           (first_is c.args.base.now c.flag.result c.copy.result c.day.result (values c.in_ok-changed_lines.field-0) c.in_ok-try_copy.field-0 c.stated.result c.new.result c.args.check
-          c.flag.ensures (c.copy.ensures ∙ c.number.ensures) c.day.ensures lines (c.in_ok-try_copy.ensures ∙ c.extras.ensures.value) c.stated.ensures c.new.ensures))
-          (first_right c.args.base.now c.args.check c.extras.ensures.spelled),
+          c.flag.ensures (c.copy.ensures ∙ c.number.ensures) c.day.ensures lines (c.in_ok-try_copy.ensures ∙ c.extras.ensures.value) c.new.ensures))
+          (first_right c.args.base.now c.args.check c.stated.result c.extras.ensures.spelled c.stated.ensures),
     )
 
 pub returns : goal.returns
 returns c =
     let lines : values c.in_ok-changed_lines.field-0 ≡ c.args.base.now.lines = c.in_ok-changed_lines.ensures.list ∙ made_of c.new-none.result.entries c.args.base.now.lines c.lines.result.now c.new-none.ensures.empty c.lines.ensures c.extras.ensures.spelled.sound.apart in
-    first_is c.args.base.now c.flag.result c.copy.result c.day.result (values c.in_ok-changed_lines.field-0) c.in_ok-try_copy.field-0 c.stated.result c.new.result c.args.check
-    c.flag.ensures (c.copy.ensures ∙ c.number.ensures) c.day.ensures lines (c.in_ok-try_copy.ensures ∙ c.extras.ensures.value) c.stated.ensures c.new.ensures
+    first_made c.args.base.now _ c.args.check c.stated.result
+    (first_is c.args.base.now c.flag.result c.copy.result c.day.result (values c.in_ok-changed_lines.field-0) c.in_ok-try_copy.field-0 c.stated.result c.new.result c.args.check
+    c.flag.ensures (c.copy.ensures ∙ c.number.ensures) c.day.ensures lines (c.in_ok-try_copy.ensures ∙ c.extras.ensures.value) c.new.ensures)
+    c.stated.ensures
