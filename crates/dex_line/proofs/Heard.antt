@@ -115,3 +115,23 @@ pub heard_frames : (bytes : List ℕ)
 heard_frames bytes =
     let r : Adds [] bytes [] (hear_all nothing_heard bytes) = heard_adds bytes [] [] nothing_begun in
     subst (λ shapes. HeardAs bytes shapes (hear_all nothing_heard bytes).begun) (sym r.1) r.2
+
+-- ---- what was heard before stays in front
+
+abbrev Behind : List FrameShape → Hearing → Hearing → Type 0
+Behind before all later = all ≡ hearing later.begun (before ++ later.shapes)
+
+behind_answer : (before : List FrameShape) (bytes text : List ℕ) (shapes : List FrameShape)
+    → ((begun : List ℕ) (shapes : List FrameShape)
+    → Behind before (hear_all (hearing begun (before ++ shapes)) bytes) (hear_all (hearing begun shapes) bytes))
+    → (answer : Option FrameShape)
+    → Behind before (hear_all (after_answer (before ++ shapes) text answer) bytes) (hear_all (after_answer shapes text answer) bytes)
+behind_answer before bytes text shapes on None = on text shapes
+behind_answer before bytes text shapes on (Some shape) =
+    ap (λ (l : List FrameShape). hear_all (hearing [] l) bytes) (append_assoc before shapes (shape ∷ [])) ∙ on [] (shapes ++ shape ∷ [])
+
+pub heard_behind : (before : List FrameShape) (bytes begun : List ℕ) (shapes : List FrameShape)
+    → Behind before (hear_all (hearing begun (before ++ shapes)) bytes) (hear_all (hearing begun shapes) bytes)
+heard_behind before [] begun shapes = refl
+heard_behind before (b ∷ bytes) begun shapes =
+    behind_answer before bytes (begun ++ b ∷ []) shapes (λ begun shapes. heard_behind before bytes begun shapes) (judge (begun ++ b ∷ []))

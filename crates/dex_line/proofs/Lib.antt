@@ -15,3 +15,6 @@ pub mod Exists
 pub mod Fewest
 pub mod Items
 pub mod Occurrences
+pub mod Scanned
+pub mod BlockTexts
+pub mod Worked

@@ -123,9 +123,9 @@ item_before_cut last text items cut front back t a (shape, b, more, s, e) same =
     ]
 
 -- so a block that occurs is an item
-pub item_of : (last : Bool) (text : List ℕ) (items : List (List ℕ)) (cut : List ℕ) → IsSpoken (Block last text)
+pub item_of : (last : Bool) (text : List ℕ) (items : List (List ℕ)) (cut : List ℕ)
     → AreItems items → IsCutShort cut → Occurs last text (concat items ++ cut)
     → (before : List (List ℕ)) × (after : List (List ℕ)) × (items ≡ before ++ spelling (Block last text) ∷ after)
-item_of last text items cut t a s (front, back, same) =
-    let (before, after, found, f, g) = item_before_cut last text items cut front back t a s same in
+item_of last text items cut a s (front, back, o) =
+    let (before, after, found, f, g) = item_before_cut last text items cut front back o.0 a s o.1 in
     (before, after, found)

@@ -62,7 +62,7 @@ one_parse a b v w x y s t e =
     (ap (λ (h : Hearing). h.shapes) f, ap (λ (h : Hearing). h.begun) f)
 
 -- a block of a text of text bytes can be said
-both_all : (a b : List ℕ) → list_all is_text (a ++ b) ≡ true
+pub both_all : (a b : List ℕ) → list_all is_text (a ++ b) ≡ true
     → (list_all is_text a ≡ true) × (list_all is_text b ≡ true)
 both_all a b h = let e = list_all-append is_text a b in let f : (list_all is_text a && list_all is_text b) ≡ true = sym e ∙ h in (grind (arith, nat_tests), grind (arith, nat_tests))
 

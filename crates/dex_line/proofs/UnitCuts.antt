@@ -200,9 +200,6 @@ join_if : (t : Bool) (x y : List (List ℕ)) (text : List ℕ) → (t ≡ true �
 join_if true x y text f g = f refl
 join_if false x y text f g = g refl
 
-is_same : (b n : ℕ) → (b == n) ≡ true → n ≡ b
-is_same b n h = grind (arith, nat_tests)
-
 -- the lines joined are the text
 join_lines : (text : List ℕ) → concat (lines_of text) ≡ text
 unfolding lines_of

@@ -2,11 +2,17 @@
 use Rattle.std.specs.Prelude.{◌≡◌, ◌⊎◌, ℕ, ◌-◌, Bool, List, [], ◌∷◌, ◌++◌}
 use Rattle.std.specs.List.{concat}
 use Rattle.dex_line.specs.FrameShapes.{FrameShape, Block}
-use Rattle.dex_line.specs.FrameSpelling.{IsSpoken, spelling}
+use Rattle.dex_line.specs.FrameSpelling.{IsSpoken, IsTextOf, spelling}
+use Rattle.dex_line.specs.declared.frame.Opened.TheVariants as opens
+
+-- a text that a block may have
+abbrev pub IsBlockText : List ℕ → Type 0
+IsBlockText text = IsTextOf opens.Block text
 
 -- the spelling of this data block is a piece of the bytes, with these bytes before and behind it
 abbrev pub OccursBetween : List ℕ → List ℕ → Bool → List ℕ → List ℕ → Type 0
-OccursBetween front back last text bytes = bytes ≡ front ++ (spelling (Block last text) ++ back)
+OccursBetween front back last text bytes =
+    IsBlockText text × (bytes ≡ front ++ (spelling (Block last text) ++ back))
 
 -- the spelling of this data block is a piece of the bytes
 abbrev pub Occurs : Bool → List ℕ → List ℕ → Type 0

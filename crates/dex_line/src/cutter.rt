@@ -50,6 +50,7 @@ impl<'a> Cutter<'a> {
         ensures marks { IfSome result (λ x. Marks x.1 self.new) }
         // The same as the blocks of the text, for callers that compute.
         ensures blocks { MatchOption result (blocks_of self.old ≡ []) (λ x. blocks_of self.old ≡ (x.0.now, x.1) ∷ blocks_of self.new) }
+        ensures left { UnitsFit self.new }
         // A block of a text of text bytes can be said.
         ensures said { IfSome result (λ x. list_all is_text self.old ≡ true
             → IsTextOf Opened.Block x.0.now × (list_all is_text self.new ≡ true)) }
@@ -59,6 +60,7 @@ impl<'a> Cutter<'a> {
 
     fn cut(&mut self) -> Option<(&'a [u8], bool)>
         ensures fit { UnitsFit self.old }
+        ensures left { UnitsFit self.new }
         ensures block { MatchOption result ((self.old ≡ []) × (self.new ≡ []))
             (λ x. IsFirstBlock self.old x.0.now self.new) }
         ensures marks { IfSome result (λ x. Marks x.1 self.new) }

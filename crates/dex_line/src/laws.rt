@@ -1,16 +1,16 @@
 //! Laws of the definitions, each on a function that does nothing.
 
-ghost use Rattle.std.specs.Prelude.{[], ◌≡◌, ◌≤◌, ◌++◌, ◌∷◌, true, ℕ, Bool, List, Option, length, map};
+ghost use Rattle.std.specs.Prelude.{[], ◌≡◌, ◌≤◌, ◌++◌, ◌∷◌, true, ℕ, Bool, List, Option, codes, length, map};
 ghost use Rattle.std.specs.List.{concat, flat_map, fold};
 ghost use Rattle.dex_line.specs.BlockCut.{blocks_of, CutOf, CutRun, IsCutInto};
 ghost use Rattle.dex_line.specs.Captured.{frames_in, with_places, FramesIn, IsCoveredBy};
 ghost use Rattle.dex_line.specs.declared.frame.Opened.{Opened};
-ghost use Rattle.dex_line.specs.FrameShapes.{Block, Damaged, FrameShape};
-ghost use Rattle.dex_line.specs.FrameSpelling.{high_check, is_closing, low_check, spelling, wrapped, Answers, IsSpoken, IsTextOf, Spelled};
+ghost use Rattle.dex_line.specs.FrameShapes.{Block, Damaged, Enq, Eot, FrameShape};
+ghost use Rattle.dex_line.specs.FrameSpelling.{high_check, is_closing, low_check, spelling, wrapped, Answers, IsTextOf, Spelled};
 ghost use Rattle.dex_line.specs.Hearing.{hear_all, hearing, nothing_heard, AreSpoken, HeardAs};
 ghost use Rattle.dex_line.specs.Judging.{judge};
 ghost use Rattle.dex_line.specs.Occurrence.{AreItems, IsCutShort, IsOneItem, Occurs, OccursBetween};
-ghost use Rattle.dex_line.specs.TextUnits.{UnitsFit};
+ghost use Rattle.dex_line.specs.TextUnits.{units_of, UnitsFit};
 
 /// No bytes spell two frames, and no spelling is a proper front of another one.
 pub fn spellings_stand_apart()
@@ -79,13 +79,28 @@ pub fn cuts_are_fewest()
 /// frame. So it is too where the last frame is cut short.
 pub fn blocks_stand_alone()
     ensures whole { (last : Bool) (text : List ℕ) (items : List (List ℕ)) (front back : List ℕ)
-        → IsSpoken (Block last text) → AreItems items → OccursBetween front back last text (concat items)
+        → AreItems items → OccursBetween front back last text (concat items)
         → IsOneItem items front (spelling (Block last text)) back }
     ensures cut { (last : Bool) (text : List ℕ) (items : List (List ℕ)) (short front back : List ℕ)
-        → IsSpoken (Block last text) → AreItems items → IsCutShort short → OccursBetween front back last text (concat items ++ short)
+        → AreItems items → IsCutShort short → OccursBetween front back last text (concat items ++ short)
         → (before : List (List ℕ)) × (after : List (List ℕ)) × (items ≡ before ++ spelling (Block last text) ∷ after)
         × (front ≡ concat before) × (back ≡ concat after ++ short) }
     ensures item { (last : Bool) (text : List ℕ) (items : List (List ℕ)) (short : List ℕ)
-        → IsSpoken (Block last text) → AreItems items → IsCutShort short → Occurs last text (concat items ++ short)
+        → AreItems items → IsCutShort short → Occurs last text (concat items ++ short)
         → (before : List (List ℕ)) × (after : List (List ℕ)) × (items ≡ before ++ spelling (Block last text) ∷ after) }
+{}
+
+/// A G85 and the SE behind it are one unit.
+pub fn trailers_stay_with_their_set_end()
+    ensures { units_of (codes "G85*5170" ++ 13 ∷ 10 ∷ codes "SE*2*1" ++ 13 ∷ 10 ∷ [])
+        ≡ (codes "G85*5170" ++ 13 ∷ 10 ∷ codes "SE*2*1" ++ 13 ∷ 10 ∷ []) ∷ [] }
+{}
+
+/// A block that occurs has a text that a block may have. Bytes alone do not tell: the blocks `#KN` and `B` with an end and
+/// an enquiry between them have the bytes of one block of twelve, which nobody can say.
+pub fn no_block_holds_frames()
+    ensures alike { flat_map spelling (Block true (codes "#KN") ∷ Eot ∷ Enq ∷ Block true (codes "B") ∷ [])
+        ≡ spelling (Block true (0x23 ∷ 0x4B ∷ 0x4E ∷ 0x10 ∷ 0x03 ∷ 0x0E ∷ 0x33 ∷ 0x04 ∷ 0x05 ∷ 0x10 ∷ 0x02 ∷ 0x42 ∷ [])) }
+    ensures none { (bytes : List ℕ)
+        → Occurs true (0x23 ∷ 0x4B ∷ 0x4E ∷ 0x10 ∷ 0x03 ∷ 0x0E ∷ 0x33 ∷ 0x04 ∷ 0x05 ∷ 0x10 ∷ 0x02 ∷ 0x42 ∷ []) bytes → ⊥ }
 {}

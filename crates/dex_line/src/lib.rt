@@ -20,4 +20,4 @@ pub use frame::{BLOCK_READ, Frame, HEADER_BYTES};
 pub use frames::Frames;
 pub use lent::Captured;
 pub use scanner::Scanner;
-pub use spelling::spell;
+pub use spelling::{FRAME_BYTES, spell};

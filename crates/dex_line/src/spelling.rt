@@ -12,8 +12,11 @@ use super::frame::{Frame, Opened};
 use arrayvec::ArrayVec;
 use block_check::Running;
 
+/// The room for the bytes of a frame.
+pub const FRAME_BYTES: usize = 600;
+
 /// The bytes of a frame that can be said, check and all.
-pub fn spell(frame: &Frame) -> ArrayVec<u8, 600>
+pub fn spell(frame: &Frame) -> ArrayVec<u8, FRAME_BYTES>
     requires { IsSpoken (frame_seen frame.now) }
     ensures { result.items ≡ spelling (frame_seen frame.now) }
 {
@@ -31,7 +34,7 @@ pub fn spell(frame: &Frame) -> ArrayVec<u8, 600>
 }
 
 /// One byte.
-fn one(byte: u8) -> ArrayVec<u8, 600>
+fn one(byte: u8) -> ArrayVec<u8, FRAME_BYTES>
     ensures { result.items ≡ byte ∷ [] }
 {
     let mut bytes = ArrayVec::new();
@@ -40,7 +43,7 @@ fn one(byte: u8) -> ArrayVec<u8, 600>
 }
 
 /// A byte behind a DLE.
-fn marked(byte: u8) -> ArrayVec<u8, 600>
+fn marked(byte: u8) -> ArrayVec<u8, FRAME_BYTES>
     ensures { result.items ≡ dle ∷ byte ∷ [] }
 {
     let mut bytes = one(DLE);
@@ -49,7 +52,7 @@ fn marked(byte: u8) -> ArrayVec<u8, 600>
 }
 
 /// A text between its marks, and its check.
-fn guard(opened: Opened, text: &[u8], closing: u8) -> ArrayVec<u8, 600>
+fn guard(opened: Opened, text: &[u8], closing: u8) -> ArrayVec<u8, FRAME_BYTES>
     requires { length text.now ≤ BLOCK_READ }
     ensures { result.items ≡ guarded opened text.now closing }
 {

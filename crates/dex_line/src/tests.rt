@@ -1,25 +1,9 @@
 use super::*;
-use arrayvec::ArrayVec;
 
 /// A turn: an enquiry, its reply, the last block with the text `A`, and the end.
 const TURN: [u8; 11] = [
     0x05, 0x10, 0x30, 0x10, 0x02, 0x41, 0x10, 0x03, 0x70, 0x51, 0x04,
 ];
-
-fn kind(frame: &Frame) -> &'static str {
-    match frame {
-        Frame::Enq => "ENQ",
-        Frame::Ack0 => "ACK0",
-        Frame::Ack1 => "ACK1",
-        Frame::Nak => "NAK",
-        Frame::Eot => "EOT",
-        Frame::Header(_) => "HEADER",
-        Frame::Block { last: false, .. } => "BLOCK",
-        Frame::Block { last: true, .. } => "LAST",
-        Frame::Damaged => "DAMAGED",
-        Frame::Bad => "BAD",
-    }
-}
 
 fn captured_kind(frame: Captured<'_>) -> &'static str {
     match frame {
@@ -81,58 +65,10 @@ fn each_changed_byte_is_seen(rt: HostRuntime) {
 }
 
 #[test]
-#[tactic(auto, unfolding(crate::specs::Bytes::is_text))]
-fn frames_are_spelled(rt: HostRuntime) {
-    assert_eq!(rt; spell(&Frame::Ack0).as_slice(), [0x10, 0x30].as_slice());
-    for (last, want) in [
-        (true, [0x10, 0x02, 0x41, 0x10, 0x03, 0x70, 0x51]),
-        (false, [0x10, 0x02, 0x41, 0x10, 0x17, 0x70, 0x5e]),
-    ] {
-        let mut text = ArrayVec::new();
-        text.push(b'A');
-        assert_eq!(rt;
-            spell(&Frame::Block { last, text }).as_slice(),
-            want.as_slice()
-        );
-    }
-}
-
-/// How many bytes are taken up to the first answer, and its kind.
-fn hear(bytes: &[u8]) -> (usize, &'static str) {
-    let (taken, answer) = Scanner::new().hear(bytes);
-    match answer {
-        Some(frame) => (taken, kind(&frame)),
-        None => (taken, "NONE"),
-    }
-}
-
-#[test]
-fn texts_have_limits(rt: HostRuntime) {
-    let mut block = [b'A'; 518];
-    (block[0], block[1]) = (0x10, 0x02);
-    assert_eq!(rt; hear(&block), (515, "BAD"));
-    (block[514], block[515], block[516], block[517]) = (0x10, 0x03, 0x22, 0x95);
-    assert_eq!(rt; hear(&block), (518, "LAST"));
-    let mut header = [b'A'; 38];
-    (header[0], header[1]) = (0x10, 0x01);
-    assert_eq!(rt; hear(&header), (35, "BAD"));
-    (header[34], header[35], header[36], header[37]) = (0x10, 0x03, 0x85, 0x2f);
-    assert_eq!(rt; hear(&header), (38, "HEADER"));
-}
-
-#[test]
 fn a_silence_drops_what_has_begun(rt: HostRuntime) {
     let mut scanner = Scanner::new();
     assert!(rt; scanner.quiet().is_none());
     assert!(rt; scanner.push(0x10).is_none());
     assert!(rt; matches!(scanner.quiet(), Some(Frame::Bad)));
     assert!(rt; matches!(scanner.push(0x05), Some(Frame::Enq)));
-}
-
-#[test]
-#[tactic(auto, unfolding(crate::specs::TextUnits::lines_of, crate::specs::TextUnits::paired, crate::specs::TextUnits::units_of))]
-fn a_text_is_cut(rt: HostRuntime) {
-    let mut cutter = Cutter::new(b"G85*5170\r\nSE*2*1\r\n");
-    assert!(rt; matches!(cutter.next(), Some((b"G85*5170\r\nSE*2*1\r\n", true))));
-    assert!(rt; cutter.next().is_none());
 }

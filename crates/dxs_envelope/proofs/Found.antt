@@ -8,7 +8,8 @@ use Rattle.segments.specs.Views.{Seg, element_of}
 use Rattle.segments.specs.declared.segment_fault.SegmentFault.{SegmentFault}
 use Rattle.dxs_envelope.specs.EnvelopeTable.{has_function, is_header}
 use Rattle.dxs_envelope.specs.FirstFault.{Standing, Front, Between, Inside, Behind, after, ended_by, header_reason, longer, reason_at, told_at, told_first, told_from, trailer_reason}
-use Rattle.dxs_envelope.specs.Transmission.{IsSet, IsTransmission, bytes_of, joined_sets, set_at}
+use Rattle.segments.specs.SetUnits.{IsSet}
+use Rattle.dxs_envelope.specs.Transmission.{IsTransmission, bytes_of, joined_sets, set_at}
 use Rattle.dxs_envelope.specs.Views.{SetAt, Told}
 use Rattle.dxs_envelope.specs.declared.fault.EnvelopeReason.{EnvelopeReason}
 use Rattle.dxs_envelope.specs.declared.fault.EnvelopeReason.TheVariants as reasons

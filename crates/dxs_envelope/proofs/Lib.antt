@@ -10,3 +10,5 @@ pub mod SentRead
 pub mod Worked
 pub mod Standing
 pub mod FaultPlace
+pub mod SegmentLines
+pub mod LineUnits

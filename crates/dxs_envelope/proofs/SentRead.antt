@@ -20,7 +20,8 @@ use Rattle.segments.specs.SegmentWriting.{IsLine, line_of, segment_of}
 use Rattle.segments.specs.Views.{Seg, element_of}
 use Rattle.segments.proofs.Written.{element_part, segment_spelled}
 use Rattle.dxs_envelope.specs.EnvelopeTable.{count_in, has_function, has_length, is_control_number, is_header, is_trailer}
-use Rattle.dxs_envelope.specs.Sending.{AreUnits, IsCommId, IsInUnits, Sent, header_row, placed, trailer_row}
+use Rattle.segments.specs.SetUnits.{AreUnits, IsInUnits}
+use Rattle.dxs_envelope.specs.Sending.{IsCommId, Sent, header_row, placed, trailer_row}
 use Rattle.dxs_envelope.specs.Transmission.{Envelope, joined_sets}
 use Rattle.dxs_envelope.specs.Views.{SetAt, Told}
 use Rattle.dxs_envelope.proofs.Enveloped.{envelope_told}

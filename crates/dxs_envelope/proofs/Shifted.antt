@@ -7,8 +7,9 @@ use Rattle.segments.specs.Kinds.{has_id}
 use Rattle.segments.specs.SegmentSpelling.{SpellsSegments}
 use Rattle.segments.specs.Views.{Seg}
 use Rattle.segments.proofs.Reading.{bytes_some}
-use Rattle.dxs_envelope.specs.Sending.{AreUnits, EndsInReturn, Fits, IsSetText, placed, units_of}
-use Rattle.dxs_envelope.specs.Transmission.{IsSet, bytes_of, joined_sets, set_at, start_of}
+use Rattle.segments.specs.SetUnits.{AreUnits, EndsInReturn, Fits, IsSet, IsSetText, units_of}
+use Rattle.dxs_envelope.specs.Sending.{placed}
+use Rattle.dxs_envelope.specs.Transmission.{bytes_of, joined_sets, set_at, start_of}
 use Rattle.dxs_envelope.specs.Views.{SetAt}
 
 -- ---- a place further behind

@@ -18,9 +18,11 @@ use Rattle.dxs_envelope.proofs.Shifted.{spelled_append}
 
 -- ---- a set that is open
 
--- before this place stand an ST and segments that are no SE, and before them the text up to the set
+-- before this place stand an ST and segments that are no SE, and before them whole segments up to the set
 pub record IsOpen (set : SetAt) (before : List ℕ) : Type 0 where
   pub front : List ℕ
+  pub past : List Seg
+  pub spelled_past : SpellsSegments 0 past front
   pub first : Seg
   pub inside : List Seg
   pub joined : before ≡ front ++ set.bytes
@@ -48,10 +50,12 @@ longer_spelled set before seg o is start =
     spelled_append (o.first ∷ o.inside) (seg ∷ []) set.start set.bytes seg.bytes o.spelled
     (one_spelled (set.start + length set.bytes) seg is (start ∙ behind_open set before o))
 
-opened : (before : List ℕ) (seg : Seg) → SpellsSegment seg → seg.start ≡ length before → has_id seg (codes "ST") ≡ true
+opened : (before : List ℕ) (done : List Seg) (seg : Seg) → SpellsSegments 0 done before → SpellsSegment seg → seg.start ≡ length before → has_id seg (codes "ST") ≡ true
     → IsOpen (record { start = seg.start; bytes = seg.bytes }) (before ++ seg.bytes)
-opened before seg is start begins = record {
+opened before done seg past is start begins = record {
   front = before;
+  past = done;
+  spelled_past = past;
   first = seg;
   inside = [];
   joined = refl;
@@ -68,6 +72,8 @@ stays_open : (set : SetAt) (before : List ℕ) (seg : Seg) → IsOpen set before
     → IsOpen (longer set seg) (before ++ seg.bytes)
 stays_open set before seg o is start other = record {
   front = o.front;
+  past = o.past;
+  spelled_past = o.spelled_past;
   first = o.first;
   inside = o.inside ++ seg ∷ [];
   joined = ap (λ (l : List ℕ). l ++ seg.bytes) o.joined ∙ append_assoc o.front set.bytes seg.bytes;
@@ -86,7 +92,11 @@ closed text set before rest seg o joined is start ends =
     ∙ ap (λ (l : List ℕ). (l ++ seg.bytes) ++ rest) o.joined
     ∙ ap (λ (l : List ℕ). l ++ rest) (append_assoc o.front set.bytes seg.bytes)
     ∙ append_assoc o.front bytes rest in
+    let front : take set.start text ≡ o.front =
+    ap (λ (n : ℕ). take n text) o.start ∙ ap (take (length o.front)) there ∙ take-append_seam o.front (bytes ++ rest) in
     record {
+      before = o.past;
+      behind = subst (SpellsSegments 0 o.past) (sym front) o.spelled_past;
       within = omega (arith, o.start, ap length there, length-append o.front (bytes ++ rest), length-append bytes rest);
       there = ap (λ (n : ℕ). take (length bytes) (drop n text)) o.start ∙ ap (λ (l : List ℕ). take (length bytes) (drop (length o.front) l)) there
           ∙ ap (take (length bytes)) (drop-append_seam o.front (bytes ++ rest)) ∙ take-append_seam bytes rest;
@@ -97,11 +107,11 @@ closed text set before rest seg o joined is start ends =
 
 -- ---- a segment more
 
-module _ (text before rest : List ℕ) (seg : Seg) (joined : text ≡ before ++ (seg.bytes ++ rest)) (is : SpellsSegment seg) (start : seg.start ≡ length before) where
+module _ (text before rest : List ℕ) (done : List Seg) (seg : Seg) (joined : text ≡ before ++ (seg.bytes ++ rest)) (past : SpellsSegments 0 done before) (is : SpellsSegment seg) (start : seg.start ≡ length before) where
   moves_open : (s : Standing) → StandsOpen s before → StandsOpen (after s seg) (before ++ seg.bytes)
   moves_open Front o = tt
   moves_open (Between control found) o = elim (cases_Bool (has_id seg (codes "ST"))) [
-    | inl begins ↦ rw begins (opened before seg is start begins)
+    | inl begins ↦ rw begins (opened before done seg past is start begins)
     | inr other ↦ rw other tt
   ]
   moves_open (Inside control found set) o = elim (cases_Bool (has_id seg (codes "SE"))) [
@@ -133,24 +143,26 @@ all_end : (P : SetAt → Type 0) (fault : Option SegmentFault) (reason : Option 
 all_end P (Some fault) reason place = All-nil P
 all_end P None reason place = all_at P reason place whole (All-nil P)
 
-sets_stand : (segs : List Seg) (s : Standing) (fault : Option SegmentFault) (text before front rest : List ℕ) (place : ℕ) → place ≡ length before
-    → text ≡ before ++ (front ++ rest) → SpellsSegments place segs front → StandsOpen s before → All (StandsIn text) (told_from s place segs fault).sets
+sets_stand : (segs done : List Seg) (s : Standing) (fault : Option SegmentFault) (text before front rest : List ℕ) (place : ℕ) → place ≡ length before
+    → text ≡ before ++ (front ++ rest) → SpellsSegments 0 done before → SpellsSegments place segs front → StandsOpen s before → All (StandsIn text) (told_from s place segs fault).sets
 unfolding told_from
-sets_stand [] s fault text before front rest place at joined spelled o = all_end (StandsIn text) fault (end_reason s) place
-sets_stand (seg ∷ segs) s fault text before front rest place at joined (is, start, (later, parts, behind)) o =
+sets_stand [] done s fault text before front rest place at joined past spelled o = all_end (StandsIn text) fault (end_reason s) place
+sets_stand (seg ∷ segs) done s fault text before front rest place at joined past (is, start, (later, parts, behind)) o =
     let there : text ≡ before ++ (seg.bytes ++ (later ++ rest)) =
     joined ∙ ap (λ (l : List ℕ). before ++ (l ++ rest)) parts ∙ ap (λ (l : List ℕ). before ++ l) (append_assoc seg.bytes later rest) in
-    let past : text ≡ (before ++ seg.bytes) ++ (later ++ rest) = there ∙ sym (append_assoc before seg.bytes (later ++ rest)) in
+    let beyond : text ≡ (before ++ seg.bytes) ++ (later ++ rest) = there ∙ sym (append_assoc before seg.bytes (later ++ rest)) in
     let first = start ∙ at in
     let next : seg.start + length seg.bytes ≡ length (before ++ seg.bytes) = omega (arith, first, length-append before seg.bytes) in
+    let along : seg.start ≡ 0 + length before = omega (arith, first) in
+    let one = spelled_append done (seg ∷ []) 0 before seg.bytes past (one_spelled (0 + length before) seg is along) in
     let more : SpellsSegments (seg.start + length seg.bytes) segs later = subst (λ (n : ℕ). SpellsSegments (n + length seg.bytes) segs later) (sym start) behind in
     all_at (StandsIn text) (reason_at s seg) seg.start (told_first (ended_by s seg) (told_from (after s seg) (seg.start + length seg.bytes) segs fault))
     (all_first (StandsIn text) (ended_by s seg) (told_from (after s seg) (seg.start + length seg.bytes) segs fault)
-    (ended_stands text before (later ++ rest) seg there is first s o)
-    (sets_stand segs (after s seg) fault text (before ++ seg.bytes) later rest (seg.start + length seg.bytes) next past more
-    (moves_open text before (later ++ rest) seg there is first s o)))
+    (ended_stands text before (later ++ rest) done seg there past is first s o)
+    (sets_stand segs (done ++ seg ∷ []) (after s seg) fault text (before ++ seg.bytes) later rest (seg.start + length seg.bytes) next beyond one more
+    (moves_open text before (later ++ rest) done seg there past is first s o)))
 
 pub told_stand : (text : List ℕ) → All (StandsIn text) (told_of text).sets
 told_stand text =
     let cut = is_cut (text_start text) in
-    sets_stand (cut_of text).segments Front (cut_of text).fault text [] cut.front cut.rest 0 refl cut.joined cut.spelled tt
+    sets_stand (cut_of text).segments [] Front (cut_of text).fault text [] cut.front cut.rest 0 refl cut.joined refl cut.spelled tt

@@ -10,7 +10,8 @@ use Rattle.segments.specs.Kinds.{has_id}
 use Rattle.segments.specs.Views.{Seg, element_of}
 use Rattle.dxs_envelope.specs.EnvelopeTable.{count_in, has_function, is_trailer}
 use Rattle.dxs_envelope.specs.FirstFault.{Front, Between, Inside, Behind, longer, told_at, told_behind, told_first, told_from, trailer_reason, unless, whole}
-use Rattle.dxs_envelope.specs.Transmission.{IsSet, IsTransmission, bytes_of, joined_sets, set_at}
+use Rattle.segments.specs.SetUnits.{IsSet}
+use Rattle.dxs_envelope.specs.Transmission.{IsTransmission, bytes_of, joined_sets, set_at}
 use Rattle.dxs_envelope.specs.Views.{SetAt, Told}
 use Rattle.dxs_envelope.specs.declared.fault.EnvelopeReason.{EnvelopeReason}
 use Rattle.dxs_envelope.specs.declared.fault.EnvelopeReason.TheVariants as reasons

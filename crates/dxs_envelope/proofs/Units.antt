@@ -7,8 +7,8 @@ use Rattle.std.proofs.lemmas.List.Elements.{All-append, All-cons, All-nil, All-h
 use Rattle.std.proofs.lemmas.Slice.Eq.{bytes_eq-Decides}
 use Rattle.segments.specs.Kinds.{has_id}
 use Rattle.segments.specs.Views.{Seg, element_of}
-use Rattle.dxs_envelope.specs.Sending.{AreUnits, EndsInReturn, Fits, units_of}
-use Rattle.dxs_envelope.specs.Transmission.{IsSet, joined_sets}
+use Rattle.segments.specs.SetUnits.{AreUnits, EndsInReturn, Fits, IsSet, units_of}
+use Rattle.dxs_envelope.specs.Transmission.{joined_sets}
 
 -- ---- segments behind others
 

@@ -10,8 +10,7 @@ use Rattle.segments.specs.SegmentSpelling.{IsPart, is_element_character, is_id}
 use Rattle.segments.specs.SegmentWriting.{IsLine, line_of, segment_of, segments_of, text_of}
 use Rattle.segments.specs.Views.{Seg}
 use Rattle.segments.proofs.Written.{lines_spelled}
-use Rattle.dxs_envelope.specs.Sending.{EndsInReturn, Fits, IsSetText, units_of}
-use Rattle.dxs_envelope.specs.Transmission.{IsSet}
+use Rattle.segments.specs.SetUnits.{EndsInReturn, Fits, IsSet, IsSetText, units_of}
 
 abbrev pub Row : Type 0
 Row = List (List ℕ)
@@ -84,16 +83,7 @@ rows_sent rows lines set short = record {
   units = record { returns = returns 0 rows; fit = fit_all (units_of (segments_of 0 rows)) short };
 }
 
--- ---- two sets
-
-abbrev small_rows : List Row
-small_rows = (codes "ST" ∷ codes "894" ∷ codes "0001" ∷ []) ∷ (codes "SE" ∷ codes "002" ∷ codes "0001" ∷ []) ∷ []
-
-small_set : IsSet (segments_of 0 small_rows)
-small_set = record { first = _; inside = []; last = _; joined = refl; begins = refl; goes_on = no_ends [] refl; ends = refl }
-
-pub small_sent : IsSetText (text_of small_rows)
-small_sent = rows_sent small_rows refl small_set refl
+-- ---- a set
 
 abbrev inside_rows : List Row
 inside_rows =

@@ -1,15 +1,11 @@
 -- The one text that is written of a transmission, and the sets of which one is written (this project's profile).
-use Rattle.std.specs.Prelude.{◌≡◌, ℕ, ◌+◌, ◌≤◌, ◌&&◌, nat_lt, if◌then◌else◌, List, [], ◌∷◌, ◌++◌, length, codes, All, Result, Ok, Err}
-use Rattle.std.specs.List.{concat, join_with_byte}
+use Rattle.std.specs.Prelude.{◌≡◌, ℕ, ◌+◌, ◌≤◌, nat_lt, if◌then◌else◌, List, [], ◌∷◌, ◌++◌, length, codes, All, Result, Ok, Err}
+use Rattle.std.specs.List.{concat}
 use Rattle.dsd_values.specs.Reading.{IsIdText}
 use Rattle.dsd_values.specs.Writing.{number_text}
 use Rattle.dsd_values.specs.declared.comm_id.TheConstants.{COMM_ID_BYTES}
-use Rattle.segments.specs.Kinds.{has_id}
-use Rattle.segments.specs.SegmentSpelling.{SpellsSegments}
 use Rattle.segments.specs.SegmentWriting.{line_of}
-use Rattle.segments.specs.Views.{Seg}
-use Rattle.segments.specs.declared.segment_write_fault.TheConstants.{SEGMENT_WRITTEN}
-use Rattle.dxs_envelope.specs.Transmission.{IsSet}
+use Rattle.segments.specs.SetUnits.{IsSetText}
 use Rattle.dxs_envelope.specs.Views.{SetAt}
 use Rattle.dxs_envelope.specs.declared.outgoing.TheConstants.{TRANSMISSION_BYTES}
 use Rattle.dxs_envelope.specs.declared.outgoing.EnvelopeWriteFault.{EnvelopeWriteFault}
@@ -29,42 +25,6 @@ trailer_row control sets = codes "DXE" ∷ number_text control ∷ number_text s
 abbrev pub text_of_sets : List ℕ → List ℕ → ℕ → List (List ℕ) → List ℕ
 text_of_sets sender receiver control sets =
     line_of (header_row sender receiver control) ++ concat sets ++ line_of (trailer_row control (length sets))
-
--- ---- the sets
-
--- the segment ends with CR LF
-abbrev pub EndsInReturn : Seg → Type 0
-EndsInReturn seg = seg.bytes ≡ join_with_byte 42 seg.parts ++ 13 ∷ 10 ∷ []
-
--- what a block of the line takes whole: a segment, but a G85 and the SE behind it together
-abbrev pub units_of : List Seg → List (List ℕ)
-units_of [] = []
-units_of (seg ∷ []) = seg.bytes ∷ []
-units_of (seg ∷ next ∷ more) =
-    if has_id seg (codes "G85") && has_id next (codes "SE") then (seg.bytes ++ next.bytes) ∷ units_of more
-    else seg.bytes ∷ units_of (next ∷ more)
-
--- the unit fits into a block
-abbrev pub Fits : List ℕ → Type 0
-Fits unit = length unit ≤ SEGMENT_WRITTEN
-
--- segments with CR LF, in units that fit
-pub record AreUnits (segments : List Seg) : Type 0 where
-  pub returns : All EndsInReturn segments
-  pub fit : All Fits (units_of segments)
-
--- the text is such segments
-pub record IsInUnits (text : List ℕ) : Type 0 where
-  pub segments : List Seg
-  pub spelled : SpellsSegments 0 segments text
-  pub units : AreUnits segments
-
--- the text of a set from its ST through its only SE, in whole units that fit
-pub record IsSetText (text : List ℕ) : Type 0 where
-  pub segments : List Seg
-  pub spelled : SpellsSegments 0 segments text
-  pub set : IsSet segments
-  pub units : AreUnits segments
 
 -- ---- the transmission
 

@@ -1,21 +1,11 @@
 -- Which texts are a transmission, and of which sets: a header, any number of sets and a trailer, in every spelling that
 -- is read (this project's profile).
-use Rattle.std.specs.Prelude.{◌≡◌, ℕ, ◌+◌, ◌≤◌, true, false, List, [], ◌∷◌, ◌++◌, length, take, drop, codes, map, All}
-use Rattle.segments.specs.Kinds.{has_id}
+use Rattle.std.specs.Prelude.{◌≡◌, ℕ, ◌+◌, ◌≤◌, true, List, [], ◌∷◌, ◌++◌, length, take, drop, map, All}
 use Rattle.segments.specs.SegmentSpelling.{SpellsSegments}
+use Rattle.segments.specs.SetUnits.{IsSet}
 use Rattle.segments.specs.Views.{Seg, element_of}
 use Rattle.dxs_envelope.specs.EnvelopeTable.{count_in, has_function, is_header, is_trailer}
 use Rattle.dxs_envelope.specs.Views.{SetAt}
-
--- the segments of a set: an ST, any others, and the first SE behind it
-pub record IsSet (segments : List Seg) : Type 0 where
-  pub first : Seg
-  pub inside : List Seg
-  pub last : Seg
-  pub joined : segments ≡ first ∷ inside ++ last ∷ []
-  pub begins : has_id first (codes "ST") ≡ true
-  pub goes_on : All (λ seg. has_id seg (codes "SE") ≡ false) inside
-  pub ends : has_id last (codes "SE") ≡ true
 
 -- the segments of sets, one set after another
 abbrev pub joined_sets : List (List Seg) → List Seg
@@ -56,8 +46,10 @@ pub record Envelope (sets : List SetAt) (text : List ℕ) : Type 0 where
   pub transmission : IsTransmission parted segments
   pub are : sets ≡ map set_at parted
 
--- the set stands in the text where it starts, and is spelled there by the segments of one
+-- the set stands in the text where it starts, behind whole segments, and is spelled there by the segments of one
 pub record StandsIn (text : List ℕ) (set : SetAt) : Type 0 where
+  pub before : List Seg
+  pub behind : SpellsSegments 0 before (take set.start text)
   pub within : set.start + length set.bytes ≤ length text
   pub there : take (length set.bytes) (drop set.start text) ≡ set.bytes
   pub segments : List Seg

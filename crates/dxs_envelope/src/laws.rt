@@ -1,11 +1,17 @@
 //! Laws of the definitions, each on a function that does nothing.
 
-ghost use Rattle.std.specs.Prelude.{All, List, None, Some, length, take, ℕ, ◌↔◌, ◌≡◌, ◌≤◌};
+ghost use Rattle.std.specs.Prelude.{All, List, None, Some, length, take, true, ℕ, ◌↔◌, ◌≡◌, ◌≤◌};
+ghost use Rattle.std.specs.List.{list_all};
+ghost use Rattle.dex_line.specs.Bytes.{is_text};
+ghost use Rattle.dex_line.specs.TextUnits.{UnitsFit};
+ghost use Rattle.dex_line.specs.declared.cutter.TheConstants.{BLOCK_WRITTEN};
 ghost use Rattle.segments.specs.SegmentSpelling.{SpellsSegments};
 ghost use Rattle.segments.specs.SegmentWriting.{line_of};
 ghost use Rattle.segments.specs.Views.{Seg};
+ghost use Rattle.segments.specs.declared.segment_write_fault.TheConstants.{SEGMENT_WRITTEN};
 ghost use Rattle.dxs_envelope.specs.FirstFault.{first_fault, told_of};
-ghost use Rattle.dxs_envelope.specs.Sending.{IsInUnits, Sent, header_row, placed};
+ghost use Rattle.segments.specs.SetUnits.{IsInUnits};
+ghost use Rattle.dxs_envelope.specs.Sending.{IsOutgoing, Sent, header_row, placed};
 ghost use Rattle.dxs_envelope.specs.Transmission.{Envelope, StandsIn};
 ghost use Rattle.dxs_envelope.specs.Views.{SetAt};
 ghost use Rattle.dxs_envelope.specs.declared.fault.EnvelopeFault.{EnvelopeFault as FaultValue};
@@ -18,7 +24,7 @@ pub fn sets_are_told()
     ensures wrong { (text : List ℕ) (sets : List SetAt) (fault : FaultValue) → first_fault text ≡ Some fault → Envelope sets text → ⊥ }
 {}
 
-/// Each set that is told of a text, up to a fault too, is one and stands in the text at its start.
+/// Each set that is told of a text, up to a fault too, is one and stands in the text at its start, behind whole segments.
 pub fn sets_stand_in_their_text()
     ensures { (text : List ℕ) → All (StandsIn text) (told_of text).sets }
 {}
@@ -38,4 +44,12 @@ pub fn written_sets_are_read()
     ensures one { (text : List ℕ) (a b : List (List ℕ)) (sender sender' receiver receiver' : List ℕ) (control control' : ℕ)
         → Sent a sender receiver control text → Sent b sender' receiver' control' text → a ≡ b }
     ensures units { (text : List ℕ) (sets : List (List ℕ)) (sender receiver : List ℕ) (control : ℕ) → Sent sets sender receiver control text → IsInUnits text }
+{}
+
+/// Whole units of segments are whole units of a line, of text bytes alone: so a written transmission can be cut into blocks. What is
+/// written as a segment fits into one.
+pub fn units_are_blocks()
+    ensures units { (text : List ℕ) → IsInUnits text → UnitsFit text × (list_all is_text text ≡ true) }
+    ensures outgoing { (text : List ℕ) → IsOutgoing text → UnitsFit text × (list_all is_text text ≡ true) }
+    ensures segment { SEGMENT_WRITTEN ≤ BLOCK_WRITTEN }
 {}

@@ -12,7 +12,8 @@ mod writing;
 
 pub use fault::{EnvelopeFault, EnvelopeReason};
 pub use laws::{
-    faults_stand_in_their_text, sets_are_told, sets_stand_in_their_text, written_sets_are_read,
+    faults_stand_in_their_text, sets_are_told, sets_stand_in_their_text, units_are_blocks,
+    written_sets_are_read,
 };
 pub use outgoing::{EnvelopeWriteFault, Outgoing, TRANSMISSION_BYTES};
 pub use sets::Sets;

@@ -1,6 +1,9 @@
 //! A transmission that goes out.
 
-ghost use Rattle.std.specs.Prelude.{◌≡◌};
+ghost use Rattle.std.specs.Prelude.{◌≡◌, true};
+ghost use Rattle.std.specs.List.{list_all};
+ghost use Rattle.dex_line.specs.Bytes.{is_text};
+ghost use Rattle.dex_line.specs.TextUnits.{UnitsFit};
 ghost use Rattle.dxs_envelope.specs.Sending.{IsOutgoing as IsOutgoingText};
 ghost use Rattle.dxs_envelope.specs.declared.outgoing.EnvelopeWriteFault.TheVariants.{Memory as NoMemory};
 
@@ -62,6 +65,9 @@ impl Outgoing {
         ensures value { result.now ≡ self.now }
         // It is the transmission of some sets, of which there is one list.
         ensures sent { IsOutgoingText result.now }
+        // So a cutter can be made of it, and each of its blocks can be said.
+        ensures fits { UnitsFit result.now }
+        ensures text { list_all is_text result.now ≡ true }
     {
         self.text.as_slice()
     }

@@ -5,7 +5,8 @@ ghost use Rattle.std.specs.List.{concat};
 ghost use Rattle.dsd_values.specs.Answers.{UnlessMemory};
 ghost use Rattle.dsd_values.specs.Reading.{IsElementText};
 ghost use Rattle.segments.specs.SegmentWriting.{line_of, parts_of_begun};
-ghost use Rattle.dxs_envelope.specs.Sending.{IsCommId, IsSetText, Sent, header_row, text_of_sets, trailer_row, unless_long};
+ghost use Rattle.segments.specs.SetUnits.{IsSetText};
+ghost use Rattle.dxs_envelope.specs.Sending.{IsCommId, Sent, header_row, text_of_sets, trailer_row, unless_long};
 ghost use Rattle.segments.specs.declared.segment_write_fault.TheConstants.{SEGMENT_WRITTEN};
 
 use super::outgoing::{EnvelopeWriteFault, Outgoing, TRANSMISSION_BYTES};
