@@ -1,10 +1,10 @@
 -- What is due, from one place to the next.
 use Rattle.std.proofs.Common.{◌≡◌, ℕ, suc, ◌+◌, ◌-◌, ◌≤◌, ◌<◌, nat_lt, if◌then◌else◌, Bool, true, false, List, [], ◌∷◌, ◌++◌, length, take, drop, map, replicate, get_or, refl, sym, ◌∙◌, ap, subst, arith, length-take, length-drop, append_assoc, append-nil, add-one, inl, inr}
-use Rattle.std.proofs.lemmas.List.{drop-map, map-append, length-map, drop-replicate, length-replicate, drop_at, take_at, take_all, drop-drop, take-append-drop}
+use Rattle.std.proofs.lemmas.List.{drop-map, map-append, length-map, drop-replicate, length-replicate, drop_at, take_at, take_all, drop_all, drop-drop, take-append-drop, length-append}
 use Rattle.std.proofs.Math.Seq.{drop-cons}
 use Rattle.std.proofs.lemmas.Bool.{cases_lt}
 use Rattle.std.proofs.lemmas.Bool.Decides.{nat_tests}
-use Rattle.dsd_station.specs.declared.call.Answer.TheVariants.{Piece}
+use Rattle.dsd_station.specs.declared.call.Reception.TheVariants.{Piece}
 use Rattle.dsd_station.specs.declared.feeding.Fed.{Fed}
 use Rattle.dsd_station.specs.declared.feeding.Given.{Given}
 use Rattle.dsd_station.specs.declared.feeding.Given.TheVariants.{Bytes, Quiet, Unplugged}
@@ -176,3 +176,20 @@ module _ (fed : List Fed) (at : Cursor) (one : Fed) (here : drop at.head fed ≡
 
 pub mark_here : (fed : List Fed) (at : Cursor) (one : Fed) → drop at.head fed ≡ one ∷ drop (at.head + 1) fed → NoByteNext at.offset (drop at.head fed) → IsMark one.given at.offset
 mark_here fed at one here none = subst (λ l. NoByteNext at.offset l) here none
+
+due_from_start : (fed : List Fed) → due_of fed ≡ due_behind 0 fed
+due_from_start [] = refl
+due_from_start (one ∷ fed) = refl
+
+-- nothing more comes of this piece
+pub none_here : (fed : List Fed) (at : Cursor) (one : Fed) → drop at.head fed ≡ one ∷ drop (at.head + 1) fed → length (dues_of one.given) ≤ at.offset → due_at fed at ≡ due_at fed (record { head = at.head + 1; offset = 0 })
+none_here fed at one here none =
+    ap (λ (l : List Fed). due_behind at.offset l) here ∙ ap (λ (l : List Due). l ++ due_of (drop (at.head + 1) fed)) (drop_all at.offset (dues_of one.given) none)
+    ∙ due_from_start (drop (at.head + 1) fed)
+
+pub some_here : (fed : List Fed) (at : Cursor) (one : Fed) → drop at.head fed ≡ one ∷ drop (at.head + 1) fed → at.offset < length (dues_of one.given) → 0 < length (due_at fed at)
+some_here fed at one here some =
+    omega (arith, ap (λ (l : List Fed). length (due_behind at.offset l)) here, length-append (drop at.offset (dues_of one.given)) (due_of (drop (at.head + 1) fed)), length-drop at.offset (dues_of one.given), some)
+
+pub none_behind : (fed : List Fed) (at : Cursor) → length fed ≤ at.head → due_at fed at ≡ []
+none_behind fed at all = ap (λ (l : List Fed). due_behind at.offset l) (drop_all at.head fed all)

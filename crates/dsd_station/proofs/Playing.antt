@@ -110,16 +110,16 @@ plays_told P c answer result old new (inl (is, so)) done none =
 plays_told P c answer result old new (inr (is, so)) done none = subst (λ t. P result t) (sym (ap told_by is)) (subst (λ r. P r (told_by old)) (sym so) none)
 
 cause_at : {T : Type 0} (b : Bool) (result : Result T Failed) (old new : ℕ) → old < 2 ^ 64 → b ≡ is_refused result → new ≡ (if b then counted old else old) → HasCause old new result
-cause_at true (Ok x) old new small b is = record { later = omega (arith, is); failed = tt }
-cause_at true (Err e) old new small b is = record { later = omega (arith, is); failed = omega (arith, is) }
-cause_at false (Ok x) old new small b is = record { later = omega (arith, is); failed = tt }
+cause_at true (Ok x) old new small b is = absurd (true_is_not_false b)
+cause_at true (Err e) old new small b is = record { later = omega (arith, is); failed = omega (arith, is); kept = tt }
+cause_at false (Ok x) old new small b is = record { later = omega (arith, is); failed = tt; kept = is }
 cause_at false (Err e) old new small b is = absurd (true_is_not_false (sym b))
 
 pub plays_cause : {T : Type 0} (c : Call) (answer result : Result T Failed) (old new : Log) → Plays c answer result old new → has_failed c ≡ is_refused answer → old.faults < 2 ^ 64 → HasCause old.faults new.faults result
 plays_cause c answer result old new (inl (is, so)) fails small = cause_at (has_failed c) result old.faults new.faults small (fails ∙ ap is_refused (sym so)) (ap (λ (l : Log). l.faults) is)
 plays_cause c answer result old new (inr (is, so)) fails small =
     let more : new.faults ≡ counted old.faults = ap (λ (l : Log). l.faults) is in
-    subst (λ r. HasCause old.faults new.faults r) (sym so) (record { later = omega (arith, more); failed = omega (arith, more) })
+    subst (λ r. HasCause old.faults new.faults r) (sym so) (record { later = omega (arith, more); failed = omega (arith, more); kept = tt })
 
 pub played_after : {T : Type 0} (c : Call) (answer result : Result T Failed) (old new : Log) → Plays c answer result old new → IsPlayed old → c ≡ answered old.plan old.calls c → Fits (state_of old.calls) c → IsPlayed new
 played_after c answer result old new (inl (is, so)) was by fits = subst IsPlayed (sym is) (played_is old c was by fits)

@@ -1,22 +1,17 @@
 -- A write and a sync behind it.
-use Rattle.std.proofs.Common.{◌≡◌, ℕ, List, [], ◌∷◌, ◌++◌, length, sym, ◌∙◌, ap, subst, Result, Ok, Err, arith, inl, inr, ◌⊎◌, append_assoc, append-nil}
+use Rattle.std.proofs.Common.{◌≡◌, ℕ, List, [], ◌∷◌, ◌++◌, length, sym, ◌∙◌, ap, subst, Result, Ok, Err, is_ok, true, arith, inl, inr, ◌⊎◌}
 use Rattle.dsd_station.specs.declared.failed.Failed.{Failed}
 use Rattle.dsd_station.specs.declared.call.Call.{Call}
 use Rattle.dsd_station.specs.declared.call.Outcome.{Outcome}
 use Rattle.dsd_station.specs.declared.call.Call.TheVariants.{Write, Sync}
 use Rattle.dsd_station.specs.Disk.{Torn, MayLeave}
 use Rattle.dsd_station.specs.Told.{Told, Moment, Allows, EachStop, IsSynced}
-use Rattle.dsd_station.specs.Effects.{Passes, Stays, Writes, Syncs, AddsAs, written, synced}
+use Rattle.dsd_station.specs.Effects.{Passes, Stays, Writes, Syncs, written, synced}
 use Rattle.dsd_station.specs.Stops.{then, writes_stops, syncs_stops}
-use Rattle.dsd_station.specs.Puts.{Goes, Puts}
+use Rattle.dsd_station.specs.Puts.{Puts}
+use Rattle.dsd_station.specs.Rows.{Makes, put_calls}
+use Rattle.dsd_station.proofs.Making.{makes_one, makes_stop, makes_then}
 use Rattle.dsd_station.proofs.Overlay.{torn_same}
-
-goes_as : (call : Outcome → Call) (result : Result (Unit {0}) Failed) (old new : Told) → AddsAs call result old new → Goes old new
-goes_as call result old new (inl same) = record { more = []; calls = same ∙ sym (append-nil old.calls) }
-goes_as call result old new (inr one) = record { more = call one.0 ∷ []; calls = one.2 }
-
-goes_then : (a b c : Told) → Goes a b → Goes b c → Goes a c
-goes_then a b c x y = record { more = x.more ++ y.more; calls = y.calls ∙ ap (λ (l : List Call). l ++ y.more) x.calls ∙ append_assoc a.calls x.more y.more }
 
 sync_gone : (old new : Told) → Passes old new [] old.now ⊎ Stays old new → new.now.gone ≡ old.now.gone
 sync_gone old new (inl passes) = ap (λ (m : Moment). m.gone) passes.now
@@ -41,6 +36,30 @@ module _ (at : ℕ) (bytes : List ℕ) (old : Told) (sure : IsSynced old) where
         left.gone_of,
       )
 
+  abbrev writing : Outcome → Call
+  writing outcome = Write at bytes outcome
+
+  abbrev syncing : Outcome → Call
+  syncing outcome = Sync outcome
+
+  write_gone : (new : Told) → Passes old new [] (written old.now at bytes) ⊎ (Stays old new × (new.journal ≡ old.journal)) → new.now.gone ≡ old.now.gone
+  write_gone new (inl passes) = ap (λ (m : Moment). m.gone) passes.now
+  write_gone new (inr stays) = ap (λ (m : Moment). m.gone) stays.0.now
+
+  -- the write failed
+  pub puts_failed : (failed : Failed) (new : Told) → Writes at bytes (Err failed) old new → Puts at bytes (Err failed) old new
+  puts_failed failed new wrote = record {
+    journal_name = wrote.same.journal_name;
+    port_name = wrote.same.port_name;
+    heard = wrote.same.heard;
+    gone = write_gone new wrote.time;
+    plan = wrote.same.plan;
+    syncs = (omega (arith, wrote.same.syncs), omega (arith, wrote.same.syncs));
+    made = makes_stop (writing ∷ []) (syncing ∷ []) old new (makes_one writing (Err failed) old new wrote.calls);
+    stops = writes_stops at bytes (Err failed) old new Kept wrote before behind;
+    ok = tt;
+  }
+
   -- the write went well, and the sync may have
   module _ (done : Unit {0}) (mid : Told) (wrote : Writes at bytes (Ok done) old mid) where
     at_mid : Allows mid.now Kept
@@ -55,8 +74,8 @@ module _ (at : ℕ) (bytes : List ℕ) (old : Told) (sure : IsSynced old) where
     stops_both : (result : Result (Unit {0}) Failed) (new : Told) → Syncs result mid new → EachStop old new Kept
     stops_both result new sync = then (writes_stops at bytes (Ok done) old mid Kept wrote before behind) (syncs_stops result mid new Kept sync at_mid after_sync)
 
-    goes_both : (result : Result (Unit {0}) Failed) (new : Told) → Syncs result mid new → Goes old new
-    goes_both result new sync = goes_then old mid new (goes_as (λ (outcome : Outcome). Write at bytes outcome) (Ok done) old mid wrote.calls) (goes_as (λ (outcome : Outcome). Sync outcome) result mid new sync.calls)
+    made_both : (result : Result (Unit {0}) Failed) (new : Told) → Syncs result mid new → Makes (put_calls at bytes) (is_ok result) old new
+    made_both result new sync = makes_then (writing ∷ []) (syncing ∷ []) (is_ok result) old mid new (makes_one writing (Ok done) old mid wrote.calls) (makes_one syncing result mid new sync.calls)
 
     pub puts_done : (result : Result (Unit {0}) Failed) (new : Told) → Syncs result mid new → Puts at bytes result old new
     puts_done (Ok ended) new sync = record {
@@ -66,7 +85,7 @@ module _ (at : ℕ) (bytes : List ℕ) (old : Told) (sure : IsSynced old) where
       gone = ap (λ (m : Moment). m.gone) sync.ok.1.now ∙ mid_gone;
       plan = sync.ok.0.plan ∙ wrote.same.plan;
       syncs = (omega (arith, wrote.same.syncs, sync.count.0), omega (arith, wrote.same.syncs, sync.count.1));
-      goes = goes_both (Ok ended) new sync;
+      made = made_both (Ok ended) new sync;
       stops = stops_both (Ok ended) new sync;
       ok = (
         sync.ok.0.journal ∙ wrote.ok.0,
@@ -80,7 +99,7 @@ module _ (at : ℕ) (bytes : List ℕ) (old : Told) (sure : IsSynced old) where
       gone = sync_gone mid new sync.err.1 ∙ mid_gone;
       plan = sync.err.0.plan ∙ wrote.same.plan;
       syncs = (omega (arith, wrote.same.syncs, sync.count.0), omega (arith, wrote.same.syncs, sync.count.1));
-      goes = goes_both (Err failed) new sync;
+      made = made_both (Err failed) new sync;
       stops = stops_both (Err failed) new sync;
       ok = tt;
     }

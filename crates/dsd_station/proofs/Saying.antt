@@ -1,7 +1,7 @@
 -- The answers heard and the bytes gone are those of the record.
 use Rattle.std.proofs.Common.{◌≡◌, ℕ, List, [], ◌∷◌, ◌++◌, refl, sym, ◌∙◌, ap, append_assoc, append-nil, Option, Some, None, Ok, Err}
 use Rattle.dsd_station.specs.declared.call.Outcome.TheVariants.{Done, Failing, Stopped}
-use Rattle.dsd_station.specs.declared.call.Answer.{Answer}
+use Rattle.dsd_station.specs.declared.call.Reception.{Reception}
 use Rattle.dsd_station.specs.declared.call.Call.{Call}
 use Rattle.dsd_station.specs.declared.call.Call.TheVariants.{Attach, Size, Read, Write, Sync, Listen, Speak, Restart}
 use Rattle.dsd_station.specs.Replayed.{State, step, restarted, replay, state_of, fresh}
@@ -53,7 +53,7 @@ step_gone s Restart = restarted_gone s s.left ∙ sym (append-nil s.now.gone)
 
 replay_heard : (s : State) (calls : List Call) → (replay s calls).heard ≡ s.heard ++ answers_in calls
 replay_heard s [] = sym (append-nil s.heard)
-replay_heard s (c ∷ calls) = replay_heard (step s c) calls ∙ ap (λ (l : List Answer). l ++ answers_in calls) (step_heard s c) ∙ append_assoc s.heard (heard_by c) (answers_in calls)
+replay_heard s (c ∷ calls) = replay_heard (step s c) calls ∙ ap (λ (l : List Reception). l ++ answers_in calls) (step_heard s c) ∙ append_assoc s.heard (heard_by c) (answers_in calls)
 
 replay_gone : (s : State) (calls : List Call) → (replay s calls).now.gone ≡ s.now.gone ++ said_in calls
 replay_gone s [] = sym (append-nil s.now.gone)

@@ -2,7 +2,7 @@
 use Rattle.std.proofs.Common.{◌≡◌, ◌≤◌, ◌-◌, ℕ, min, List, [], ◌∷◌, ◌++◌, length, take, drop, Bool, true, false, if◌then◌else◌, refl, sym, ap, subst, inl, inr, Result, Ok, Err, IfOk, arith, length-drop}
 use Rattle.dsd_station.specs.declared.failed.Failed.{Failed}
 use Rattle.dsd_station.specs.declared.station.Heard.{Heard}
-use Rattle.dsd_station.specs.declared.call.Answer.{Answer}
+use Rattle.dsd_station.specs.declared.call.Reception.{Reception}
 use Rattle.dsd_station.specs.declared.call.Outcome.{Outcome}
 use Rattle.dsd_station.specs.declared.call.Outcome.TheVariants.{Done, Failing, Stopped}
 use Rattle.dsd_station.specs.declared.call.Call.{Call}
@@ -193,11 +193,11 @@ module _ (old new : Log) where
   read_told at room answer result plays =
       plays_told (λ r t. Reads (Read at room r) (told_by old) t) (Read at room answer) answer result old new plays (read_so (state_of old.calls) old.calls old.plan at room answer) (reads_none (Read at room (Err (record {}))) (told_by old) refl)
 
-  pub listens_told : (into : List ℕ) (answer : Result Answer Failed) (result : Result Heard Failed) → Plays (Listen answer) answer (listened into result) old new → Listens into result (told_by old) (told_by new)
+  pub listens_told : (into : List ℕ) (answer : Result Reception Failed) (result : Result Heard Failed) → Plays (Listen answer) answer (listened into result) old new → Listens into result (told_by old) (told_by new)
   listens_told into answer result plays =
       plays_told (λ r t. r ≡ listened into result → Listens into result (told_by old) t) (Listen answer) answer (listened into result) old new plays (done answer) (none result) refl
     where
-      done : (a : Result Answer Failed) → a ≡ listened into result → Listens into result (told_by old) (told_from (step (state_of old.calls) (Listen a)) (old.calls ++ Listen a ∷ []) old.plan)
+      done : (a : Result Reception Failed) → a ≡ listened into result → Listens into result (told_by old) (told_from (step (state_of old.calls) (Listen a)) (old.calls ++ Listen a ∷ []) old.plan)
       done a is =
           subst (λ b. Listens into result (told_by old) (told_from (step (state_of old.calls) (Listen b)) (old.calls ++ Listen b ∷ []) old.plan)) (sym is)
           (listens_so (state_of old.calls) old.calls old.plan into result)

@@ -4,8 +4,8 @@ use Rattle.dsd_station.specs.declared.feeding.Fed.{Fed}
 use Rattle.dsd_station.specs.declared.feeding.Given.{Given}
 use Rattle.dsd_station.specs.declared.feeding.Given.TheVariants.{Bytes, Quiet, Unplugged}
 use Rattle.dsd_station.specs.declared.port.Cursor.{Cursor}
-use Rattle.dsd_station.specs.declared.call.Answer.{Answer}
-use Rattle.dsd_station.specs.declared.call.Answer.TheVariants.{Silence, Cut}
+use Rattle.dsd_station.specs.declared.call.Reception.{Reception}
+use Rattle.dsd_station.specs.declared.call.Reception.TheVariants.{Silence, Cut}
 use Rattle.dsd_station.specs.Planned.{Due, dues_of}
 
 abbrev pub due_of : List Fed → List Due
@@ -41,7 +41,7 @@ NoByteNext offset [] = Unit {0}
 NoByteNext offset (one ∷ fed) = IsMark one.given offset
 
 -- what a piece that gives no byte next gives
-abbrev pub mark_of : Given → Answer
+abbrev pub mark_of : Given → Reception
 mark_of (Bytes bytes) = Silence
 mark_of (Quiet times) = Silence
 mark_of Unplugged = Cut

@@ -3,8 +3,8 @@ use Rattle.std.specs.Prelude.{ℕ, ◌+◌, ◌<◌, ◌≤◌, ◌≡◌, ◌�
 use Rattle.dsd_station.specs.declared.failed.Failed.{Failed}
 use Rattle.dsd_station.specs.declared.station.Heard.{Heard}
 use Rattle.dsd_station.specs.declared.station.Heard.TheVariants.{Bytes, Quiet, Unplugged}
-use Rattle.dsd_station.specs.declared.call.Answer.{Answer}
-use Rattle.dsd_station.specs.declared.call.Answer.TheVariants.{Piece, Silence, Cut}
+use Rattle.dsd_station.specs.declared.call.Reception.{Reception}
+use Rattle.dsd_station.specs.declared.call.Reception.TheVariants.{Piece, Silence, Cut}
 use Rattle.dsd_station.specs.declared.call.Outcome.{Outcome}
 use Rattle.dsd_station.specs.declared.call.Outcome.TheVariants.{Done, Failing, Stopped}
 use Rattle.dsd_station.specs.declared.call.Call.{Call}
@@ -29,7 +29,7 @@ with_names t journal port = record t { journal_name = journal; port_name = port 
 abbrev pub with_journal : Told → List ℕ → Told
 with_journal t journal = record t { journal = journal }
 
-abbrev pub with_heard : Told → List Answer → Told
+abbrev pub with_heard : Told → List Reception → Told
 with_heard t heard = record t { heard = heard }
 
 abbrev pub with_syncs : Told → ℕ → Told
@@ -120,15 +120,26 @@ pub record Syncs (result : Result (Unit {0}) Failed) (old new : Told) : Type 0 w
   pub calls : AddsAs (λ (outcome : Outcome). Sync outcome) result old new
 
 -- what an answer says was heard, of the buffer behind it
-abbrev pub heard_in : List ℕ → Heard → Answer
+abbrev pub heard_in : List ℕ → Heard → Reception
 heard_in into (Bytes n) = Piece (take n into)
 heard_in into Quiet = Silence
 heard_in into Unplugged = Cut
 
 -- the same of an answer that may be a failure
-abbrev pub listened : List ℕ → Result Heard Failed → Result Answer Failed
+abbrev pub listened : List ℕ → Result Heard Failed → Result Reception Failed
 listened into (Ok heard) = Ok (heard_in into heard)
 listened into (Err failed) = Err failed
+
+-- how many bytes of the buffer an answer speaks of
+abbrev pub count_in : Heard → ℕ
+count_in (Bytes n) = n
+count_in Quiet = 0
+count_in Unplugged = 0
+
+-- the buffer is as it was but for the bytes that the answer speaks of
+abbrev pub LeavesRest : Result Heard Failed → List ℕ → List ℕ → Type 0
+LeavesRest (Ok heard) before into = drop (count_in heard) into ≡ drop (count_in heard) before
+LeavesRest (Err failed) before into = into ≡ before
 
 -- a piece has 1 to 64 bytes
 abbrev pub IsPiece : Heard → Type 0

@@ -1,13 +1,13 @@
 -- What a record says was heard, and what it says went out.
 use Rattle.std.specs.Prelude.{ℕ, List, [], ◌∷◌, ◌++◌, length, take, Ok, Err}
 use Rattle.dsd_station.specs.declared.call.Outcome.TheVariants.{Done, Failing, Stopped}
-use Rattle.dsd_station.specs.declared.call.Answer.{Answer}
+use Rattle.dsd_station.specs.declared.call.Reception.{Reception}
 use Rattle.dsd_station.specs.declared.call.Call.{Call}
 use Rattle.dsd_station.specs.declared.call.Call.TheVariants.{Attach, Size, Read, Write, Sync, Listen, Speak, Restart}
 use Rattle.dsd_station.specs.Replayed.{taken}
 
 -- the answers of one call
-abbrev pub heard_by : Call → List Answer
+abbrev pub heard_by : Call → List Reception
 heard_by (Attach journal port answer) = []
 heard_by (Size answer) = []
 heard_by (Read at room answer) = []
@@ -31,7 +31,7 @@ said_by (Speak bytes Failing) = []
 said_by (Speak bytes (Stopped pick)) = take (taken pick (length bytes)) bytes
 said_by Restart = []
 
-abbrev pub answers_in : List Call → List Answer
+abbrev pub answers_in : List Call → List Reception
 answers_in [] = []
 answers_in (call ∷ calls) = heard_by call ++ answers_in calls
 

@@ -15,4 +15,5 @@ pub mod Cursors
 pub mod Placed
 pub mod Plans
 pub mod Stops
+pub mod Rows
 pub mod Puts

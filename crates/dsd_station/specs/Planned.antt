@@ -5,8 +5,8 @@ use Rattle.dsd_station.specs.declared.feeding.Given.{Given}
 use Rattle.dsd_station.specs.declared.feeding.Given.TheVariants.{Bytes, Quiet, Unplugged}
 use Rattle.dsd_station.specs.declared.arming.ArmedFail.{ArmedFail}
 use Rattle.dsd_station.specs.declared.arming.ArmedStop.{ArmedStop}
-use Rattle.dsd_station.specs.declared.call.Answer.{Answer}
-use Rattle.dsd_station.specs.declared.call.Answer.TheVariants.{Piece, Silence, Cut}
+use Rattle.dsd_station.specs.declared.call.Reception.{Reception}
+use Rattle.dsd_station.specs.declared.call.Reception.TheVariants.{Piece, Silence, Cut}
 
 -- What was fed since the last restart, heard or not, in order; the last arming of each kind that was not disarmed; and the length
 -- of the record when it was last fed, armed, disarmed or restarted.
@@ -39,7 +39,7 @@ leading (DueQuiet ∷ dues) = []
 leading (DueCut ∷ dues) = []
 
 -- What one `listen` answers: up to 64 of these bytes, or what stands before any byte. With nothing due nothing comes.
-abbrev pub heard_of : List Due → Answer
+abbrev pub heard_of : List Due → Reception
 heard_of [] = Silence
 heard_of (DueByte byte ∷ dues) = Piece (take 64 (leading (DueByte byte ∷ dues)))
 heard_of (DueQuiet ∷ dues) = Silence

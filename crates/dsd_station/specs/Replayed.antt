@@ -3,7 +3,7 @@ use Rattle.std.specs.Prelude.{ℕ, ◌+◌, ◌-◌, ◌/◌, ◌≡◌, List, [
 use Rattle.dsd_station.specs.declared.call.Pick.{Pick}
 use Rattle.dsd_station.specs.declared.call.Pick.TheVariants.{Keep, Drop, Half}
 use Rattle.dsd_station.specs.declared.call.Outcome.TheVariants.{Done, Failing, Stopped}
-use Rattle.dsd_station.specs.declared.call.Answer.{Answer}
+use Rattle.dsd_station.specs.declared.call.Reception.{Reception}
 use Rattle.dsd_station.specs.declared.call.Call.{Call}
 use Rattle.dsd_station.specs.declared.call.Call.TheVariants.{Attach, Size, Read, Write, Sync, Listen, Speak, Restart}
 use Rattle.dsd_station.specs.Disk.{overwritten, MayLeave}
@@ -32,7 +32,7 @@ pub record State : Type 0 where
   pub journal_name : List ℕ
   pub port_name : List ℕ
   pub journal : List ℕ
-  pub heard : List Answer
+  pub heard : List Reception
   pub past : List Moment
   pub now : Moment
   pub syncs : ℕ

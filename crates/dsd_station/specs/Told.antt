@@ -1,6 +1,6 @@
 -- What a station tells, as plain data, and the stops that it allows.
 use Rattle.std.specs.Prelude.{ℕ, ◌≡◌, ◌⊎◌, List, [], ◌∷◌, ◌++◌, length, drop}
-use Rattle.dsd_station.specs.declared.call.Answer.{Answer}
+use Rattle.dsd_station.specs.declared.call.Reception.{Reception}
 use Rattle.dsd_station.specs.declared.call.Call.{Call}
 use Rattle.dsd_station.specs.Disk.{MayLeave}
 use Rattle.dsd_station.specs.Planned.{Plan, no_plan}
@@ -17,7 +17,7 @@ pub record Told : Type 0 where
   pub journal_name : List ℕ
   pub port_name : List ℕ
   pub journal : List ℕ
-  pub heard : List Answer
+  pub heard : List Reception
   pub past : List Moment
   pub now : Moment
   pub syncs : ℕ

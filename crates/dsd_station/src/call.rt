@@ -23,7 +23,7 @@ pub enum Outcome {
 
 /// What one `listen` answered.
 #[derive(Drop)]
-pub enum Answer {
+pub enum Reception {
     Piece(Handed),
     Silence,
     Cut,
@@ -55,7 +55,7 @@ pub enum Call {
         outcome: Outcome,
     },
     Listen {
-        answer: Result<Answer, Failed>,
+        answer: Result<Reception, Failed>,
     },
     Speak {
         bytes: Handed,

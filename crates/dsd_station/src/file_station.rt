@@ -4,9 +4,10 @@ ghost use Rattle.dsd_station.specs.Told.{nothing_told};
 ghost use Rattle.dsd_station.specs.Effects.{IsPiece};
 
 use crate::Failed;
-use crate::standard::read_again;
+use crate::opening::{length_of, open_both};
+use crate::standard::{read_again, read_at_again};
 use crate::station::{Heard, Station};
-use std::fs::{File, OpenOptions};
+use std::fs::File;
 use std::io;
 use std::io::Write;
 use std::os::unix::fs::FileExt;
@@ -37,7 +38,7 @@ impl<'a, R: Files<File = File>> FileStation<'a, R> {
         }
     }
 
-    // The answer of a call of the system, where a fault is counted.
+    /// The answer of a call of the system, where a fault is counted.
     fn answer<T: Drop>(&mut self, answer: io::Result<T>) -> Result<T, Failed>
         ensures cause { HasCause self.old.faults self.new.faults result }
         ensures value { IfOk result (λ value. answer ≡ Ok value) }
@@ -60,7 +61,8 @@ impl<'a, R: Files<File = File>> Station for FileStation<'a, R> {
     ghost faults = { λ s. s.faults };
 
     /// Opens the journal for reading and writing, making it where it is missing, and asks for a lock on it. Where
-    /// another run holds the lock it fails. What was attached before is let go first.
+    /// another run holds the lock it fails, as it does where the journal is no regular file, or is standard input,
+    /// standard output or the port. What was attached before is let go first.
     fn attach(&mut self, journal: &str, port: &str) -> Result<(), Failed> {
         self.journal = None;
         self.port = None;
@@ -73,7 +75,7 @@ impl<'a, R: Files<File = File>> Station for FileStation<'a, R> {
 
     fn size(&mut self) -> Result<u64, Failed> {
         let answer = match &self.journal {
-            Some(journal) => journal.metadata().map(|data| data.len()),
+            Some(journal) => length_of(journal),
             None => Err(not_attached()),
         };
         self.answer(answer)
@@ -81,7 +83,7 @@ impl<'a, R: Files<File = File>> Station for FileStation<'a, R> {
 
     fn read_at(&mut self, at: u64, into: &mut [u8]) -> Result<usize, Failed> {
         let answer = match &self.journal {
-            Some(journal) => journal.read_at(into, at),
+            Some(journal) => read_at_again(journal, into, at),
             None => Err(not_attached()),
         };
         self.answer(answer)
@@ -124,29 +126,7 @@ fn not_attached() -> io::Error {
     io::Error::from(io::ErrorKind::NotConnected)
 }
 
-fn open_both<R: Files<File = File>>(
-    files: &R,
-    journal: &str,
-    port: &str,
-) -> io::Result<(File, Option<File>)> {
-    let journal = open(files, journal, true)?;
-    if journal.try_lock().is_err() {
-        return Err(io::Error::from(io::ErrorKind::WouldBlock));
-    }
-    if port.is_empty() {
-        return Ok((journal, None));
-    }
-    let port = open(files, port, false)?;
-    Ok((journal, Some(port)))
-}
-
-fn open<R: Files<File = File>>(files: &R, path: &str, make: bool) -> io::Result<File> {
-    let mut options = OpenOptions::new();
-    options.read(true).write(true).create(make);
-    options.open(files, path)
-}
-
-// What a port gives, the bytes of it at the front of the buffer.
+/// What a port gives, the bytes of it at the front of the buffer.
 fn heard(port: &mut File, into: &mut [u8; 64]) -> io::Result<Heard>
     ensures { IfOk result IsPiece }
 {

@@ -12,6 +12,7 @@ mod memory_calls;
 mod memory_sink;
 mod memory_source;
 mod memory_station;
+mod opening;
 mod port;
 mod ranges;
 mod reading;
@@ -24,7 +25,7 @@ mod through;
 mod writing;
 
 pub use arming::{ArmedFail, ArmedStop};
-pub use call::{Answer, Call, Outcome, Pick};
+pub use call::{Call, Outcome, Pick, Reception};
 pub use failed::Failed;
 pub use feeding::{Fed, Given};
 pub use file_station::FileStation;
@@ -39,6 +40,3 @@ pub use standard::{StdSink, StdSource};
 pub use station::{Heard, Station};
 pub use through::write_through;
 pub use writing::write_all;
-
-#[cfg(test)]
-mod tests;

@@ -1,14 +1,14 @@
-ghost use Rattle.std.specs.Prelude.{◌≡◌, ◌≤◌, ◌<◌, ◌+◌, ◌-◌, ◌++◌, min, length, take, drop, IfOk, Ok, Err};
+ghost use Rattle.std.specs.Prelude.{◌≡◌, ◌≤◌, ◌<◌, ◌+◌, ◌-◌, ◌++◌, min, length, take, drop, IfOk, OnErr, Ok, Err};
 ghost use Rattle.dsd_station.specs.ByPlan.{outcome_by, due_by, unless_stopped as answer_unless_stopped};
 ghost use Rattle.dsd_station.specs.Causes.{HasCause};
-ghost use Rattle.dsd_station.specs.Effects.{Attaches, Reads, ReadsFront, Writes, Syncs, Listens, Speaks, IsPiece, answer_of, heard_in, listened};
+ghost use Rattle.dsd_station.specs.Effects.{Attaches, Reads, ReadsFront, Writes, Syncs, Listens, LeavesRest, Speaks, IsPiece, answer_of, heard_in, listened};
 ghost use Rattle.dsd_station.specs.Logged.{told_by, Plays};
 ghost use Rattle.dsd_station.specs.Planned.{heard_of};
 ghost use Rattle.dsd_station.specs.Replayed.{state_of};
 ghost use Rattle.dsd_station.specs.Told.{ReadMayStay};
 
 use crate::Failed;
-use crate::call::{Answer, Call, Outcome};
+use crate::call::{Call, Outcome, Reception};
 use crate::handed::Handed;
 use crate::memory_station::MemoryStation;
 use crate::station::{Heard, Station};
@@ -56,6 +56,7 @@ impl Station for MemoryStation {
         ensures cause { HasCause self.old.faults self.new.faults result }
         ensures bound { IfOk result (λ n. n ≤ length into.new) }
         ensures bytes { Unit {0} → IfOk result (λ n. ReadsFront at n (told_by self.old).journal into.old into.new) }
+        ensures untouched { Unit {0} → OnErr result (into.new ≡ into.old) }
         ensures told { Unit {0} → Reads (Call.Read at (length into.old) result) (told_by self.old) (told_by self.new) }
         ensures stays { Unit {0} → ReadMayStay (told_by self.new) }
         ensures plays { let answer = answer_unless_stopped self.old.calls (min (length into.old) (length (state_of self.old.calls).journal - at)) in Plays (Call.Read at (length into.old) answer) answer result self.old self.new }
@@ -97,6 +98,7 @@ impl Station for MemoryStation {
     fn listen(&mut self, into: &mut [u8; 64]) -> Result<Heard, Failed>
         ensures cause { HasCause self.old.faults self.new.faults result }
         ensures piece { IfOk result IsPiece }
+        ensures rest { Unit {0} → LeavesRest result into.old into.new }
         ensures told { Unit {0} → Listens into.new result (told_by self.old) (told_by self.new) }
         ensures stays { Unit {0} → ReadMayStay (told_by self.new) }
         ensures plays { let answer = answer_unless_stopped self.old.calls (heard_of (due_by self.old.plan.fed self.old.calls)) in Plays (Call.Listen answer) answer (listened into.new result) self.old self.new }
@@ -105,12 +107,14 @@ impl Station for MemoryStation {
             let answer = Err(Failed);
             return self.play_here(Call::Listen { answer }, Err(Failed));
         }
-        let (heard, behind) = self.next_heard(into);
-        let Ok(answer) = kept_answer(self.tape().allocator(), heard, into) else {
+        let mut piece = *into;
+        let (heard, behind) = self.next_heard(&mut piece);
+        let Ok(answer) = kept_answer(self.tape().allocator(), heard, &piece) else {
             return self.starve();
         };
         let answer = Ok(answer);
         if self.play(Call::Listen { answer }, behind) {
+            *into = piece;
             return Ok(heard);
         }
         Err(Failed)
@@ -130,7 +134,7 @@ impl Station for MemoryStation {
     }
 }
 
-// The answer of a call that went so.
+/// The answer of a call that went so.
 fn answer_to(outcome: Outcome) -> Result<(), Failed>
     ensures { result ≡ answer_of outcome }
 {
@@ -148,19 +152,19 @@ fn kept_names(alloc: Global, journal: &str, port: &str) -> Result<(Handed, Hande
     Ok((journal, port))
 }
 
-// What was heard, with the bytes of it.
-fn kept_answer(alloc: Global, heard: Heard, into: &[u8; 64]) -> Result<Answer, AllocError>
+/// What was heard, with the bytes of it.
+fn kept_answer(alloc: Global, heard: Heard, into: &[u8; 64]) -> Result<Reception, AllocError>
     requires { IsPiece heard }
     ensures { IfOk result (λ answer. answer ≡ heard_in into.now heard) }
 {
     match heard {
-        Heard::Bytes(count) => Ok(Answer::Piece(Handed::new(alloc, &into[..count])?)),
-        Heard::Quiet => Ok(Answer::Silence),
-        Heard::Unplugged => Ok(Answer::Cut),
+        Heard::Bytes(count) => Ok(Reception::Piece(Handed::new(alloc, &into[..count])?)),
+        Heard::Quiet => Ok(Reception::Silence),
+        Heard::Unplugged => Ok(Reception::Cut),
     }
 }
 
-// How many bytes a read from a place on gives.
+/// How many bytes a read from a place on gives.
 fn count_at(bytes: &[u8], at: u64, room: usize) -> usize
     ensures { result ≡ min room (length bytes.now - at) }
 {
@@ -170,7 +174,7 @@ fn count_at(bytes: &[u8], at: u64, room: usize) -> usize
     room.min(bytes.len() - at as usize)
 }
 
-// Fills the buffer with the bytes from a place on.
+/// Fills the buffer with the bytes from a place on.
 fn copy_at(bytes: &[u8], at: u64, into: &mut [u8])
     requires { length into.old ≤ length bytes.now - at }
     ensures { into.new ≡ take (length into.old) (drop at bytes.now) }

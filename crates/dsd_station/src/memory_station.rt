@@ -1,4 +1,5 @@
-ghost use Rattle.std.specs.Prelude.{◌≡◌, ◌<◌, ◌^◌, length, OnOk, OnErr};
+ghost use Rattle.std.specs.Prelude.{◌≡◌, ◌<◌, ◌^◌, [], true, false, length, OnOk, OnErr};
+ghost use Rattle.dsd_station.specs.ByPlan.{due_by};
 ghost use Rattle.dsd_station.specs.Logged.{image_by, new_log, IsPlayed};
 ghost use Rattle.dsd_station.specs.Plans.{with_fed, with_failure, with_stop, disarmed, after_restart};
 ghost use Rattle.dsd_station.specs.Replayed.{state_of};
@@ -9,7 +10,7 @@ use crate::arming::{ArmedFail, ArmedStop};
 use crate::call::{Call, Pick};
 use crate::feeding::{Fed, Given};
 use crate::handed::Handed;
-use crate::port::Cursor;
+use crate::port::{Cursor, is_silent};
 use crate::tape::Tape;
 use dsd_values::Memory;
 use std::alloc::Global;
@@ -155,6 +156,22 @@ impl MemoryStation {
     {
         let _ = self.tape.len();
         self.starved
+    }
+
+    /// The record of its calls, the oldest first.
+    pub fn calls(&self) -> &[Call]
+        ensures value { result.now ≡ self.now.calls }
+        ensures played { IsPlayed self.now }
+    {
+        self.tape.calls()
+    }
+
+    /// Whether all that was fed is heard.
+    pub fn is_heard(&self) -> bool
+        ensures heard { result ≡ true → due_by self.now.plan.fed self.now.calls ≡ [] }
+        ensures left { result ≡ false → 0 < length (due_by self.now.plan.fed self.now.calls) }
+    {
+        is_silent(&self.fed, self.cursor)
     }
 
     /// All bytes gone out.

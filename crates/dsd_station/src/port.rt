@@ -1,6 +1,6 @@
-ghost use Rattle.std.specs.Prelude.{◌≡◌, ◌≤◌, ◌<◌, ◌+◌, ◌^◌, ◌++◌, length, take, drop, map, [], MatchOption, IfSome};
+ghost use Rattle.std.specs.Prelude.{◌≡◌, ◌≤◌, ◌<◌, ◌+◌, ◌^◌, ◌++◌, length, take, drop, map, [], true, false, nat_lt, MatchOption, IfSome};
 ghost use Rattle.dsd_station.specs.Cursors.{advanced, due_at, IsIn, IsMark, NoByteNext, mark_of};
-ghost use Rattle.dsd_station.specs.Effects.{heard_in, IsPiece};
+ghost use Rattle.dsd_station.specs.Effects.{count_in, heard_in, IsPiece};
 ghost use Rattle.dsd_station.specs.Planned.{DueByte, dues_of, heard_of, left_due};
 
 use crate::feeding::{Fed, Given};
@@ -17,6 +17,7 @@ pub struct Cursor {
 pub fn hear(fed: &[Fed], from: Cursor, into: &mut [u8; 64]) -> (Heard, Cursor)
     requires { IsIn fed.now from }
     ensures piece { IsPiece result.0 }
+    ensures rest { drop (count_in result.0) into.new ≡ drop (count_in result.0) into.old }
     ensures heard { heard_in into.new result.0 ≡ heard_of (due_at fed.now from) }
     ensures left { due_at fed.now result.1 ≡ left_due (due_at fed.now from) }
     ensures inside { IsIn fed.now result.1 }
@@ -28,10 +29,41 @@ pub fn hear(fed: &[Fed], from: Cursor, into: &mut [u8; 64]) -> (Heard, Cursor)
     take_mark(fed, behind)
 }
 
-// Takes the bytes that come next, up to 64.
+/// Whether nothing is due from a place on.
+pub fn is_silent(fed: &[Fed], from: Cursor) -> bool
+    requires { IsIn fed.now from }
+    ensures none { result ≡ true → due_at fed.now from ≡ [] }
+    ensures some { result ≡ false → 0 < length (due_at fed.now from) }
+{
+    let mut at = from;
+    while at.head < fed.len() {
+        if gives_more(&fed[at.head].given, at.offset) {
+            return false;
+        }
+        at = Cursor {
+            head: at.head + 1,
+            offset: 0,
+        };
+    }
+    true
+}
+
+/// Whether a piece gives more behind so much of it.
+fn gives_more(given: &Given, offset: usize) -> bool
+    ensures { result ≡ nat_lt offset (length (dues_of given.now)) }
+{
+    match given {
+        Given::Bytes(bytes) => offset < bytes.as_slice().len(),
+        Given::Quiet(times) => offset < *times as usize,
+        Given::Unplugged => offset < 1,
+    }
+}
+
+/// Takes the bytes that come next, up to 64.
 fn take_bytes(fed: &[Fed], from: Cursor, into: &mut [u8; 64]) -> (usize, Cursor)
     requires { IsIn fed.now from }
     ensures count { result.0 ≤ 64 }
+    ensures rest { drop result.0 into.new ≡ drop result.0 into.old }
     ensures bytes { due_at fed.now from ≡ map DueByte (take result.0 into.new) ++ due_at fed.now result.1 }
     ensures inside { IsIn fed.now result.1 }
     ensures end { result.0 < 64 → NoByteNext result.1.offset (drop result.1.head fed.now) }
@@ -50,7 +82,7 @@ fn take_bytes(fed: &[Fed], from: Cursor, into: &mut [u8; 64]) -> (usize, Cursor)
     (count, at)
 }
 
-// The place after so many bytes of the rest of its piece.
+/// The place after so many bytes of the rest of its piece.
 fn behind(at: Cursor, taken: usize, rest: usize) -> Cursor
     requires head { at.head + 1 < 2 ^ 64 }
     requires offset { at.offset + rest < 2 ^ 64 }
@@ -68,7 +100,7 @@ fn behind(at: Cursor, taken: usize, rest: usize) -> Cursor
     }
 }
 
-// The bytes that are left of a piece, or none where it gives something else next.
+/// The bytes that are left of a piece, or none where it gives something else next.
 fn bytes_of(given: &Given, offset: usize) -> Option<&[u8]>
     requires { offset ≤ length (dues_of given.now) }
     ensures rest { MatchOption result (IsMark given.now offset) (λ rest. drop offset (dues_of given.now) ≡ map DueByte rest.now) }
@@ -82,7 +114,7 @@ fn bytes_of(given: &Given, offset: usize) -> Option<&[u8]>
     }
 }
 
-// Takes what comes next where it is no byte.
+/// Takes what comes next where it is no byte.
 fn take_mark(fed: &[Fed], at: Cursor) -> (Heard, Cursor)
     requires inside { IsIn fed.now at }
     requires mark { NoByteNext at.offset (drop at.head fed.now) }
@@ -99,7 +131,7 @@ fn take_mark(fed: &[Fed], at: Cursor) -> (Heard, Cursor)
     (heard, Cursor { head, offset })
 }
 
-// What a piece gives that gives no byte, and how much of it is gone then.
+/// What a piece gives that gives no byte, and how much of it is gone then.
 fn mark(given: &Given, offset: usize) -> (Heard, usize)
     requires { IsMark given.now offset }
     ensures heard { heard_in [] result.0 ≡ mark_of given.now }

@@ -88,7 +88,7 @@ pub fn put_first(
     Ok(())
 }
 
-// Puts zeros behind the bytes up to an end.
+/// Puts zeros behind the bytes up to an end.
 fn pad(bytes: &mut Vec<u8>, end: usize) -> Result<(), AllocError>
     ensures ok { OnOk result (bytes.new.items ≡ bytes.old.items ++ replicate (end - length bytes.old.items) 0) }
     ensures long { OnOk result (end ≤ vec_len bytes.new) }

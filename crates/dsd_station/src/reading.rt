@@ -42,6 +42,7 @@ pub fn read_up_to<S: Source>(
 ) -> Result<Vec<u8>, ReadFault>
     ensures bound { IfOk result (λ all. vec_len all ≤ limit) }
     ensures bytes { IfOk result (λ all. Consumes (S.left source.old) (S.left source.new) all.items) }
+    ensures kept { OnOk result (S.faults source.new ≡ S.faults source.old) }
     ensures end { IfOk result (λ all. vec_len all < limit → IsAtEnd (S.left source.new)) }
     ensures taken { OnErr result (TakesUpTo limit (S.left source.old) (S.left source.new)) }
     ensures later { S.faults source.old ≤ S.faults source.new }
@@ -57,7 +58,7 @@ pub fn read_up_to<S: Source>(
     Ok(all)
 }
 
-// Reads once through the lent piece, and keeps what came.
+/// Reads once through the lent piece, and keeps what came.
 fn read_piece<S: Source>(
     source: &mut S,
     all: &mut Vec<u8>,
@@ -68,6 +69,7 @@ fn read_piece<S: Source>(
     ensures bound { IfOk result (λ n. vec_len all.old + n ≤ limit) }
     ensures count { IfOk result (λ n. vec_len all.new ≡ vec_len all.old + n) }
     ensures bytes { OnOk result ((piece : List ℕ) × (all.new.items ≡ all.old.items ++ piece) × Consumes (S.left source.old) (S.left source.new) piece) }
+    ensures kept { OnOk result (S.faults source.new ≡ S.faults source.old) }
     ensures end { IfOk result (λ n. n ≡ 0 → IsAtEnd (S.left source.new)) }
     ensures taken { OnErr result ((piece : List ℕ) × (vec_len all.old + length piece ≤ limit) × Consumes (S.left source.old) (S.left source.new) piece) }
     ensures later { S.faults source.old ≤ S.faults source.new }

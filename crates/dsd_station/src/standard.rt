@@ -3,11 +3,13 @@ ghost use Rattle.std.specs.Io.{ReadsAtMost, WritesAtMost};
 ghost use Rattle.std.specs.Io.KnownBytes.{Keeps, ReadConsumes, WriteAppends};
 
 use crate::{Failed, Sink, Source};
+use std::fs::File;
 use std::io;
 use std::io::{ErrorKind, Read, Write};
+use std::os::unix::fs::FileExt;
 
 /// How often in a row a call is made again that a signal interrupted. After that it counts as a fault.
-const MOST_INTERRUPTS: u32 = 1_000_000;
+pub(crate) const MOST_INTERRUPTS: u32 = 1_000_000;
 
 /// A reader of std as a source: standard input in the program. It buffers nothing, and tells what its reader
 /// tells. A read that a signal interrupts is made again and is no fault, as in `read_to_end`.
@@ -70,7 +72,7 @@ impl<W: Write> Sink for StdSink<W> {
     }
 }
 
-// One read, made again where a signal interrupts it.
+/// One read, made again where a signal interrupts it.
 #[tactic(auto, using(crate::proofs::Joined::kept_reads))]
 pub(crate) fn read_again<R: Read>(reader: &mut R, into: &mut [u8]) -> io::Result<usize>
     ensures bound { ReadsAtMost result into.new }
@@ -85,7 +87,20 @@ pub(crate) fn read_again<R: Read>(reader: &mut R, into: &mut [u8]) -> io::Result
     reader.read(into)
 }
 
-// One write, made again where a signal interrupts it.
+/// One read of a file at a place, made again where a signal interrupts it.
+pub(crate) fn read_at_again(file: &File, into: &mut [u8], at: u64) -> io::Result<usize>
+    ensures { ReadsAtMost result into.new }
+{
+    for _ in 0..MOST_INTERRUPTS {
+        match file.read_at(into, at) {
+            Err(error) if error.kind() == ErrorKind::Interrupted => {}
+            answer => return answer,
+        }
+    }
+    file.read_at(into, at)
+}
+
+/// One write, made again where a signal interrupts it.
 #[tactic(auto, using(crate::proofs::Joined::kept_writes))]
 fn write_again<W: Write>(writer: &mut W, from: &[u8]) -> io::Result<usize>
     ensures bound { WritesAtMost result from.now }

@@ -1,7 +1,7 @@
-ghost use Rattle.std.specs.Prelude.{◌≡◌, ◌≤◌, ℕ, length, IfOk};
+ghost use Rattle.std.specs.Prelude.{◌≡◌, ◌≤◌, ℕ, length, IfOk, OnErr};
 ghost use Rattle.dsd_station.specs.Causes.{HasCause};
 ghost use Rattle.dsd_station.specs.Told.{Told, ReadMayStay};
-ghost use Rattle.dsd_station.specs.Effects.{Attaches, Reads, ReadsFront, Writes, Syncs, Listens, Speaks, IsPiece};
+ghost use Rattle.dsd_station.specs.Effects.{Attaches, Reads, ReadsFront, Writes, Syncs, Listens, LeavesRest, Speaks, IsPiece};
 
 use crate::Failed;
 use crate::call::Call;
@@ -45,10 +45,12 @@ pub trait Station {
         ensures stays { tells → ReadMayStay (told self.new) };
 
     /// Reads bytes of the journal from a place on. A count of 0 is the journal's end, where the buffer is not empty.
+    /// Past the count the buffer stays as it was.
     fn read_at(&mut self, at: u64, into: &mut [u8]) -> Result<usize, Failed>
         ensures cause { HasCause (faults self.old) (faults self.new) result }
         ensures bound { IfOk result (λ n. n ≤ length into.new) }
         ensures bytes { tells → IfOk result (λ n. ReadsFront at n (told self.old).journal into.old into.new) }
+        ensures untouched { tells → OnErr result (into.new ≡ into.old) }
         ensures told { tells → Reads (Call.Read at (length into.old) result) (told self.old) (told self.new) }
         ensures stays { tells → ReadMayStay (told self.new) };
 
@@ -69,6 +71,7 @@ pub trait Station {
     fn listen(&mut self, into: &mut [u8; 64]) -> Result<Heard, Failed>
         ensures cause { HasCause (faults self.old) (faults self.new) result }
         ensures piece { IfOk result IsPiece }
+        ensures rest { tells → LeavesRest result into.old into.new }
         ensures told { tells → Listens into.new result (told self.old) (told self.new) }
         ensures stays { tells → ReadMayStay (told self.new) };
 

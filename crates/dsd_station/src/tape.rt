@@ -62,6 +62,12 @@ impl Tape {
         self.calls.len() as u64
     }
 
+    pub fn calls(&self) -> &[Call]
+        ensures { result.now ≡ self.now }
+    {
+        &self.calls
+    }
+
     pub fn is_stopped(&self) -> bool
         ensures { result ≡ is_some (state_of self.now).left }
     {

@@ -1,8 +1,8 @@
-ghost use Rattle.std.specs.Prelude.{◌≡◌, ◌<◌, ◌^◌, List, true, false, if◌then◌else◌, Err};
+ghost use Rattle.std.specs.Prelude.{◌≡◌, ◌<◌, ◌^◌, List, drop, true, false, if◌then◌else◌, Err};
 ghost use Rattle.dsd_station.specs.ByPlan.{answered, due_after, due_by, is_counted, outcome_by, unless_stopped as answer_unless_stopped};
 ghost use Rattle.dsd_station.specs.Causes.{HasCause};
 ghost use Rattle.dsd_station.specs.Cursors.{due_at, IsIn};
-ghost use Rattle.dsd_station.specs.Effects.{heard_in, IsPiece};
+ghost use Rattle.dsd_station.specs.Effects.{count_in, heard_in, IsPiece};
 ghost use Rattle.dsd_station.specs.Failures.{has_failed, is_refused};
 ghost use Rattle.dsd_station.specs.Logged.{played, starving, IsPlayed, Plays};
 ghost use Rattle.dsd_station.specs.Notes.{Fits};
@@ -16,7 +16,7 @@ use crate::port::{Cursor, hear};
 use crate::station::Heard;
 use crate::tape::Tape;
 
-// How a call of a station in memory is played: what it is to answer, and its place in the record.
+/// How a call of a station in memory is played: what it is to answer, and its place in the record.
 impl MemoryStation {
     pub(crate) fn tape(&self) -> &Tape
         ensures { result.now ≡ self.now.calls }
@@ -31,7 +31,7 @@ impl MemoryStation {
         self.cursor
     }
 
-    // How the next counted call goes.
+    /// How the next counted call goes.
     pub(crate) fn next_outcome(&self) -> Outcome
         ensures { result ≡ outcome_by self.now.plan self.now.calls }
     {
@@ -45,9 +45,10 @@ impl MemoryStation {
         }
     }
 
-    // What the next `listen` hears, and the place behind it.
+    /// What the next `listen` hears, and the place behind it.
     pub(crate) fn next_heard(&self, into: &mut [u8; 64]) -> (Heard, Cursor)
         ensures piece { IsPiece result.0 }
+        ensures rest { drop (count_in result.0) into.new ≡ drop (count_in result.0) into.old }
         ensures heard { heard_in into.new result.0 ≡ heard_of (due_by self.now.plan.fed self.now.calls) }
         ensures inside { IsIn self.now.plan.fed result.1 }
         ensures left { due_at self.now.plan.fed result.1 ≡ left_due (due_by self.now.plan.fed self.now.calls) }
@@ -55,7 +56,7 @@ impl MemoryStation {
         hear(&self.fed, self.cursor, into)
     }
 
-    // Records a call and does what it says, or fails for want of memory.
+    /// Records a call and does what it says, or fails for want of memory.
     pub(crate) fn play(&mut self, call: Call, cursor: Cursor) -> bool
         requires fits { Fits (state_of self.old.calls) call }
         requires answer { call ≡ answered self.old.plan self.old.calls call }
@@ -79,7 +80,7 @@ impl MemoryStation {
         true
     }
 
-    // Records a call that hears nothing and does what it says, and gives its answer, or fails for want of memory.
+    /// Records a call that hears nothing and does what it says, and gives its answer, or fails for want of memory.
     pub(crate) fn play_here<T: Drop>(
         &mut self,
         call: Call,
@@ -100,7 +101,7 @@ impl MemoryStation {
         Err(Failed)
     }
 
-    // The value, unless the station has stopped.
+    /// The value, unless the station has stopped.
     pub(crate) fn unless_stopped<T: Drop>(&self, value: T) -> Result<T, Failed>
         ensures { result ≡ answer_unless_stopped self.now.calls value }
     {
@@ -110,7 +111,7 @@ impl MemoryStation {
         Ok(value)
     }
 
-    // Fails for want of memory.
+    /// Fails for want of memory.
     pub(crate) fn starve<T>(&mut self) -> Result<T, Failed>
         ensures log { self.new ≡ starving self.old }
         ensures result { result ≡ Err (record {}) }
@@ -123,7 +124,7 @@ impl MemoryStation {
     }
 }
 
-// By how much a call brings an arming nearer.
+/// By how much a call brings an arming nearer.
 fn steps_of(call: &Call) -> u64
     ensures { result ≡ (if is_counted call.now then 1 else 0) }
 {
@@ -137,7 +138,7 @@ fn steps_of(call: &Call) -> u64
     }
 }
 
-// How many faults a call is.
+/// How many faults a call is.
 fn failures_of(call: &Call) -> u64
     ensures { result ≡ (if has_failed call.now then 1 else 0) }
 {

@@ -1,4 +1,4 @@
-use Rattle.std.proofs.Common.{◌≡◌, ◌+◌, ◌-◌, ◌≤◌, ◌++◌, length, take, map}
+use Rattle.std.proofs.Common.{◌≡◌, ◌+◌, ◌-◌, ◌≤◌, ◌++◌, length, take, drop, map}
 use Rattle.dsd_station.specs.Planned.{DueByte}
 use Rattle.dsd_station.specs.Cursors.{due_at, IsIn}
 use Rattle.dsd_station.proofs.port.take_bytes.Given as goal
@@ -7,6 +7,7 @@ use Rattle.dsd_station.proofs.port.take_bytes.Given as goal
 abbrev pub invariant-loop-count : goal.invariant-loop-count
 invariant-loop-count l = record {
   count : l.count ≤ 64;
+  rest : drop l.count l.into ≡ drop l.count l.fn.into;
   bytes : due_at l.fed l.fn.from ≡ map DueByte (take l.count l.into) ++ due_at l.fed l.at;
   inside : IsIn l.fed l.at;
 }

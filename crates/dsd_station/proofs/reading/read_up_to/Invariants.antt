@@ -1,4 +1,4 @@
-use Rattle.std.proofs.Common.{◌≤◌, ◌-◌, vec_len}
+use Rattle.std.proofs.Common.{◌≡◌, ◌≤◌, ◌-◌, vec_len}
 use Rattle.std.specs.Io.KnownBytes.{Consumes}
 use Rattle.dsd_station.proofs.reading.read_up_to.Given as goal
 
@@ -6,7 +6,7 @@ use Rattle.dsd_station.proofs.reading.read_up_to.Given as goal
 abbrev pub invariant-loop-piece : goal.invariant-loop-piece
 invariant-loop-piece g l =
     let source = g.S.Source in
-    (source.faults l.fn.source ≤ source.faults l.source)
+    (source.faults l.source ≡ source.faults l.fn.source)
     × (vec_len l.all ≤ l.limit)
     × Consumes (source.left l.fn.source) (source.left l.source) l.all.items
 

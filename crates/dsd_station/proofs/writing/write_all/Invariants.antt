@@ -1,4 +1,4 @@
-use Rattle.std.proofs.Common.{◌≡◌, ℕ, ◌≤◌, List, ◌++◌, length}
+use Rattle.std.proofs.Common.{◌≡◌, ℕ, List, ◌++◌, length}
 use Rattle.std.specs.Io.KnownBytes.{Appends}
 use Rattle.dsd_station.proofs.writing.write_all.Given as goal
 
@@ -6,7 +6,7 @@ use Rattle.dsd_station.proofs.writing.write_all.Given as goal
 abbrev pub invariant-loop-rest : goal.invariant-loop-rest
 invariant-loop-rest g l =
     let sink = g.K.Sink in
-    (sink.faults l.fn.sink ≤ sink.faults l.sink)
+    (sink.faults l.sink ≡ sink.faults l.fn.sink)
     × ((front : List ℕ) × (l.text ≡ front ++ l.rest) × Appends (sink.written l.fn.sink) (sink.written l.sink) front)
 
 abbrev pub decreases-loop-rest : goal.decreases-loop-rest

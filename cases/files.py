@@ -1,0 +1,256 @@
+#!/usr/bin/env python3
+"""What the program does to real files: cases/files.py PROGRAM
+
+Runs PROGRAM (crates/dex/out/dex where none is given) on files in a folder of its own, and prints each check that differs.
+Its last line is 'N passed, N failed'; its status is 1 where one failed. A check that this machine cannot make is told
+as skipped: run as root, those of rights are made as nobody.
+"""
+import fcntl
+import os
+import pwd
+import random
+import resource
+import shutil
+import subprocess
+import sys
+import tempfile
+import time
+
+HEADER = b"DEXJ1H" + b"HH00000001" + b"RR00000001" + b"\n\0"
+OTHER = b"DEXJ1H" + b"HH00000002" + b"RR00000002" + b"\n\0"
+LONGER = HEADER + b"an entry's bytes, which no job may touch"
+FAULT = b"FAULT STATION\n"
+PROGRAM = "./dex"
+
+passed = failed = 0
+rights = {}
+
+
+def told(name, wrong):
+    """Counts a check, and prints what is wrong with it."""
+    global passed, failed
+    if wrong:
+        failed += 1
+        print(f"{name}: {'; '.join(wrong)}")
+    else:
+        passed += 1
+
+
+def run(words, redirect="", **how):
+    """The status and the output of the program, started by a shell with these redirections."""
+    shell = ["sh", "-c", f'exec "$0" "$@" {redirect}', PROGRAM, *words]
+    done = subprocess.run(shell, capture_output=True, stdin=how.pop("stdin", subprocess.DEVNULL), timeout=20, **how)
+    return done.returncode, done.stdout
+
+
+def format_words(journal, number=1):
+    return ["format", "handheld", f"HH0000000{number}", f"RR0000000{number}", journal]
+
+
+def content(path):
+    """The bytes of a file, or none where it is missing."""
+    try:
+        with open(path, "rb") as file:
+            return file.read()
+    except FileNotFoundError:
+        return None
+
+
+def write(path, content):
+    with open(path, "wb") as file:
+        file.write(content)
+
+
+def check(name, redirect="", journal="j.dex", before=None, after=None, begins=None, status=(6,), output=None, **how):
+    """One format, and what stands under the name then. Before is what stood there, where after and begins are not given."""
+    if os.path.lexists("j.dex"):
+        os.unlink("j.dex")
+    if before is not None:
+        write("j.dex", before)
+        os.chmod("j.dex", 0o666)
+    try:
+        got, printed = run(format_words(journal), redirect, **how)
+    except subprocess.TimeoutExpired:
+        return told(name, ["it hangs"])
+    wrong = []
+    stands = content("j.dex")
+    if got not in status:
+        wrong.append(f"status {got}, not {' or '.join(map(str, status))}")
+    if output is not None and printed != output:
+        wrong.append(f"printed {printed}, not {output}")
+    if begins is not None:
+        if not (stands or b"").startswith(begins):
+            wrong.append(f"the file begins with {stands}, not {begins}")
+    elif stands != (before if after is None else after):
+        wrong.append(f"the file is {stands}")
+    told(name, wrong)
+
+
+def plain():
+    check("a missing file is made", after=HEADER, status=(0,), output=b"FORMATTED\n")
+    check("an empty file is used", before=b"", after=HEADER, status=(0,), output=b"FORMATTED\n")
+    check("a journal stays", before=LONGER, status=(7,), output=b"NOT EMPTY %d\n" % len(LONGER))
+    check("a device that is full takes no report", "> /dev/full", after=HEADER, status=(5,))
+
+
+def closed():
+    """Descriptors that are closed at the start: a null device, or status 4 or 5, and files are whole."""
+    for redirect in ("<&-", ">&-", "2>&-", "<&- >&-", ">&- 2>&-", "<&- >&- 2>&-"):
+        lost = ">&-" in redirect.replace("2>&-", "")
+        check(f"made with {redirect}", redirect, after=HEADER, status=(0, 5) if lost else (0,))
+        check(f"a journal stays with {redirect}", redirect, before=LONGER, status=(7, 5) if lost else (7,))
+    for redirect, statuses in (("<&-", (3, 4)), ("< /dev/null >&-", (3, 5))):
+        got, _ = run(["check", "set"], redirect)
+        told(f"check set with {redirect}", [] if got in statuses else [f"status {got}"])
+
+
+def standard():
+    """A journal that is standard input or standard output."""
+    check("standard output, cut", "> j.dex", after=FAULT)
+    check("standard output, cut, which was a journal", "> j.dex", before=LONGER, after=FAULT)
+    check("standard output, behind a journal", ">> j.dex", before=LONGER, begins=LONGER)
+    check("standard output of another name", ">> other.dex; true", before=b"", after=HEADER, status=(0,))
+    check("standard input, empty", "< j.dex", before=b"", output=FAULT)
+    check("standard input, a journal", "< j.dex", before=LONGER, output=FAULT)
+    write("linked.dex", LONGER)
+    os.link("linked.dex", "second.dex")
+    got, _ = run(format_words("second.dex"), ">> linked.dex")
+    told("standard output by another name of it", [] if got == 6 else [f"status {got}"])
+
+
+def others():
+    """What is no regular file, and names that lead nowhere."""
+    os.mkfifo("fifo")
+    os.mkdir("folder")
+    os.symlink("nothing", "dangling")
+    for name in ("fifo", "folder", ".", "/", "dangling", "missing/j.dex", "j.dex/", "/dev/null", "/dev/full", "/dev/tty"):
+        before = sorted(os.listdir("."))
+        check(f"{name} as a journal", journal=name, output=FAULT)
+        told(f"nothing made by {name}", [] if sorted(set(os.listdir(".")) | {"j.dex"}) == sorted(set(before) | {"j.dex"}) else [f"{os.listdir('.')}"])
+    os.symlink("j.dex", "link")
+    check("a link to an empty file", journal="link", before=b"", after=HEADER, status=(0,))
+    try:
+        os.mknod("block", 0o60600, os.makedev(511, 1))
+    except OSError:
+        print("skipped: a block device (none can be made)")
+    else:
+        check("a block device", journal="block", output=FAULT)
+
+
+def held():
+    """A lock that another run holds."""
+    write("locked.dex", LONGER)
+    with open("locked.dex", "rb") as file:
+        fcntl.flock(file, fcntl.LOCK_EX)
+        got, _ = run(format_words("locked.dex"))
+        told("a journal that another run holds", [] if (got, content("locked.dex")) == (6, LONGER) else [f"status {got}"])
+
+
+def denied():
+    """Files and folders without the rights to them."""
+    for mode in (0o000, 0o444, 0o222):
+        write("rights.dex", LONGER)
+        os.chmod("rights.dex", mode)
+        got, _ = run(format_words("rights.dex"), **rights)
+        os.chmod("rights.dex", 0o666)
+        told(f"a file of mode {mode:o}", [] if (got, content("rights.dex")) == (6, LONGER) else [f"status {got}"])
+    for mode in (0o000, 0o555, 0o333):
+        os.mkdir("shut")
+        if rights:
+            shutil.chown("shut", rights["user"])
+        os.chmod("shut", mode)
+        got, _ = run(format_words("shut/j.dex"), **rights)
+        os.chmod("shut", 0o777)
+        told(f"a folder of mode {mode:o}", [] if (got, os.listdir("shut")) == (6, []) else [f"status {got}, it holds {os.listdir('shut')}"])
+        shutil.rmtree("shut")
+
+
+def full():
+    """No room for a byte: by a limit on files, and on a disk that is full."""
+    limit = {"preexec_fn": lambda: resource.setrlimit(resource.RLIMIT_FSIZE, (0, 0)), "restore_signals": False}
+    check("no file may grow, a missing one", after=b"", output=FAULT, **limit)
+    check("no file may grow, an empty one", before=b"", output=FAULT, **limit)
+    check("no file may grow, a journal", before=LONGER, status=(7,), **limit)
+    os.mkdir("disk")
+    fill = 'mount -t tmpfs -o size=4k none disk && : > disk/j.dex && (cat /dev/zero > disk/fill 2> /dev/null; "$0" "$@"; echo $?; wc -c < disk/j.dex)'
+    shell = ["unshare", "-Umr", "sh", "-c", fill, PROGRAM, *format_words("disk/j.dex")]
+    try:
+        done = subprocess.run(shell, capture_output=True, stdin=subprocess.DEVNULL, timeout=20)
+    except (OSError, subprocess.TimeoutExpired):
+        done = None
+    if done is None or done.returncode != 0:
+        print("skipped: a disk that is full (none can be mounted)")
+    else:
+        told("a disk that is full", [] if done.stdout == FAULT + b"6\n0\n" else [f"{done.stdout}"])
+
+
+def synced():
+    """The folder of a file that was made is synced before the first byte of it is written."""
+    words = ["strace", "-f", "-y", "-e", "trace=openat,fsync,pwrite64", PROGRAM, *format_words("traced.dex")]
+    try:
+        lines = subprocess.run(words, capture_output=True, stdin=subprocess.DEVNULL, timeout=20, text=True).stderr.splitlines()
+    except (OSError, subprocess.TimeoutExpired):
+        lines = []
+    made = [at for at, line in enumerate(lines) if "O_CREAT" in line and "traced.dex" in line and "= -1" not in line]
+    put = [at for at, line in enumerate(lines) if "pwrite64" in line and "traced.dex" in line]
+    if not made or not put:
+        return print("skipped: the sync of a folder (no trace of the program)")
+    folder = f"<{os.getcwd()}>)"
+    told("a folder is synced", [] if any("fsync" in line and folder in line for line in lines[made[-1] : put[0]]) else ["it is not"])
+
+
+def race():
+    """Two formats of one name at once: one makes the journal, and what it made stands."""
+    wrong = []
+    for turn in range(200):
+        both = [subprocess.Popen([PROGRAM, *format_words("race.dex", number)], stdout=subprocess.DEVNULL) for number in (1, 2)]
+        statuses = [one.wait(20) for one in both]
+        stands = content("race.dex")
+        winner = {(0, 6): HEADER, (0, 7): HEADER, (6, 0): OTHER, (7, 0): OTHER}.get(tuple(statuses))
+        if winner is None or stands != winner:
+            wrong.append(f"turn {turn}: {statuses}, {stands}")
+        os.unlink("race.dex")
+    told("a race of two, 200 times", wrong[:3])
+
+
+def killed():
+    """A format that is killed: nothing, an empty file or a whole header stands, and the next format goes on from it."""
+    wrong = []
+    begun = time.monotonic()
+    subprocess.run([PROGRAM, *format_words("killed.dex")], stdout=subprocess.DEVNULL)
+    whole = time.monotonic() - begun
+    os.unlink("killed.dex")
+    for turn in range(200):
+        one = subprocess.Popen([PROGRAM, *format_words("killed.dex")], stdout=subprocess.DEVNULL)
+        time.sleep(random.random() * whole)
+        one.kill()
+        one.wait(20)
+        left = content("killed.dex")
+        got, _ = run(format_words("killed.dex", 2))
+        wanted = (7, HEADER) if left else (0, OTHER)
+        if left not in (None, b"", HEADER) or (got, content("killed.dex")) != wanted:
+            wrong.append(f"turn {turn}: {left}, then status {got} and {content('killed.dex')}")
+        os.unlink("killed.dex")
+    told("killed within a format, 200 times", wrong[:3])
+
+
+def main():
+    program = os.path.abspath(sys.argv[1] if len(sys.argv) > 1 else "crates/dex/out/dex")
+    with tempfile.TemporaryDirectory() as folder:
+        shutil.copy(program, folder)
+        os.rename(f"{folder}/{os.path.basename(program)}", f"{folder}/dex")
+        os.chmod(f"{folder}/dex", 0o755)
+        os.chmod(folder, 0o777)
+        os.chdir(folder)
+        if os.geteuid() == 0:
+            nobody = pwd.getpwnam("nobody")
+            rights.update(user=nobody.pw_uid, group=nobody.pw_gid, extra_groups=[])
+        for part in (plain, closed, standard, others, held, denied, full, synced, race, killed):
+            part()
+        os.chdir("/")
+    print(f"{passed} passed, {failed} failed")
+    return 1 if failed else 0
+
+
+if __name__ == "__main__":
+    sys.exit(main())

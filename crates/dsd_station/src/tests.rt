@@ -1,2 +1,0 @@
-mod ends;
-mod stations;
