@@ -57,12 +57,12 @@ module _ (base : List ℕ) (p : ℕ) (place : length base ≡ p) where
       ∙ append_assoc base (h ∷ []) rest
 
 module _ (header : Header) (es : List Entry) (first : Entry) (more : List Entry) (old : List ℕ) (holds : Holds header es old)
-    (each : EachFits (first ∷ more)) (room : gate_place es + length (batch_of first more) < JOURNAL_BYTES) where
+    (each : EachFits (first ∷ more)) (room : gate_place es + length (batch_of (first ∷ more)) < JOURNAL_BYTES) where
   abbrev base : List ℕ
   base = header_bytes header ++ spelled es
 
   abbrev batch : List ℕ
-  batch = batch_of first more
+  batch = batch_of (first ∷ more)
 
   place : length (header_bytes header ++ spelled es) ≡ gate_place es
   place = omega (arith, length-append (header_bytes header) (spelled es), header_length header holds.journal.leads.titled)

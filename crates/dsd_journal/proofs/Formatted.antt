@@ -1,81 +1,25 @@
 -- A header written over an empty journal.
-use Rattle.std.proofs.Common.{◌≡◌, ◌⊎◌, inl, inr, ℕ, ◌+◌, Bool, if◌then◌else◌, false, List, [], ◌∷◌, ◌++◌, length, refl, sym, ◌∙◌, ap, subst, arith, append-nil, length-append, Result, Ok, Err}
+use Rattle.std.proofs.Common.{◌≡◌, ◌⊎◌, inl, inr, ℕ, ◌+◌, ◌<◌, ◌≤◌, Bool, true, false, List, [], ◌∷◌, ◌++◌, length, refl, sym, ◌∙◌, ap, subst, arith, append-nil, append_assoc, length-append, Result, Ok, Err, is_ok}
+use Rattle.std.proofs.lemmas.Bool.{cases_eq}
 use Rattle.std.proofs.lemmas.List.{drop_all}
 use Rattle.dsd_station.specs.declared.failed.Failed.{Failed}
 use Rattle.dsd_station.specs.declared.call.Call.{Call}
-use Rattle.dsd_station.specs.declared.call.Call.TheVariants.{Size, Sync, Write}
-use Rattle.dsd_station.specs.declared.call.Outcome.{Outcome}
-use Rattle.dsd_station.specs.declared.call.Outcome.TheVariants.{Done, Failing, Stopped}
+use Rattle.dsd_station.specs.declared.call.Call.TheVariants.{Size}
 use Rattle.dsd_station.specs.Disk.{overwritten, Torn}
-use Rattle.dsd_station.specs.Effects.{answer_of, written, AddsAs, Passes, Reads, Stays, Syncs, Writes}
-use Rattle.dsd_station.specs.Failures.{has_failed}
-use Rattle.dsd_station.specs.Puts.{Goes}
+use Rattle.dsd_station.specs.Effects.{Reads, Syncs, Writes}
+use Rattle.dsd_station.specs.Rows.{Makes, put_calls}
 use Rattle.dsd_station.specs.Told.{Told, Moment}
+use Rattle.dsd_station.proofs.Making.{makes_one, makes_stop, makes_then, row_fine}
 use Rattle.dsd_journal.specs.declared.header.Header.{Header}
 use Rattle.dsd_journal.specs.declared.formatting.FormatFault.{FormatFault}
-use Rattle.dsd_journal.specs.declared.formatting.FormatFault.TheVariants.{NotEmpty}
-use Rattle.dsd_journal.specs.Devices.{KeepsTalk, Unfailed, WritesHeader, Formats}
+use Rattle.dsd_journal.specs.declared.formatting.FormatFault.TheVariants.{NotEmpty, Station}
+use Rattle.dsd_journal.specs.Devices.{AsksAndPuts, Unfailed, WritesHeader, Formats}
 use Rattle.dsd_journal.specs.Headers.{formatted, header_bytes, IsHeader}
 use Rattle.dsd_journal.specs.JournalImage.{Holds}
-use Rattle.dsd_journal.proofs.Looking.{keeps_then, unfailed_then}
+use Rattle.dsd_journal.proofs.Calling.{sync_gone, sync_keeps, sync_made, syncing, write_gone, write_keeps, writing}
+use Rattle.dsd_journal.proofs.Looking.{keeps_then, unfailed_then, look_kept, look_keeps, look_now, look_unfailed, look_untouched}
 use Rattle.dsd_journal.proofs.Peeling.{header_length}
 use Rattle.dsd_journal.proofs.Refusing.{shut_holds}
-use Rattle.dsd_journal.proofs.Synced.{goes_as}
-
--- ---- one call
-
-unfailed_as : (call : Outcome → Call) (done : Unit {0}) (old new : Told) → has_failed (call Done) ≡ false → AddsAs call (Ok done) old new → Unfailed old new
-unfailed_as call done old new fine (inl same) = record { more = []; calls = same ∙ sym (append-nil old.calls); each = refl }
-unfailed_as call done old new fine (inr one) = go one.0 one.1 one.2
-  where
-    went : (failed : Failed) → (let r : Result (Unit {0}) Failed = Ok done in r) ≡ Err failed → ⊥
-    went failed is = cc
-
-    go : (outcome : Outcome) → Ok done ≡ answer_of outcome → new.calls ≡ old.calls ++ call outcome ∷ [] → Unfailed old new
-    go Done is calls = record { more = call Done ∷ []; calls = calls; each = ap (λ (b : Bool). (if b then 1 else 0) + 0) fine }
-    go Failing is calls = absurd (went (record {}) is)
-    go (Stopped pick) is calls = absurd (went (record {}) is)
-
-write_keeps : (at : ℕ) (bytes : List ℕ) (r : Result (Unit {0}) Failed) (old new : Told) → Writes at bytes r old new → KeepsTalk old new
-write_keeps at bytes r old new w = record {
-  journal_name = w.same.journal_name;
-  port_name = w.same.port_name;
-  heard = w.same.heard;
-  gone = gone w.time;
-  plan = w.same.plan;
-  syncs = omega (arith, w.same.syncs);
-  goes = goes_as (λ (outcome : Outcome). Write at bytes outcome) r old new w.calls;
-}
-  where
-    gone : Passes old new [] (written old.now at bytes) ⊎ (Stays old new × (new.journal ≡ old.journal)) → new.now.gone ≡ old.now.gone
-    gone (inl passes) = ap (λ (m : Moment). m.gone) passes.now
-    gone (inr stays) = ap (λ (m : Moment). m.gone) stays.0.now
-
-sync_talks : (r : Result (Unit {0}) Failed) (old new : Told) → Syncs r old new → KeepsTalk old new
-sync_talks (Ok done) old new s = record {
-  journal_name = s.ok.0.journal_name;
-  port_name = s.ok.0.port_name;
-  heard = s.ok.0.heard;
-  gone = ap (λ (m : Moment). m.gone) s.ok.1.now;
-  plan = s.ok.0.plan;
-  syncs = s.count.0;
-  goes = goes_as (λ (outcome : Outcome). Sync outcome) (Ok done) old new s.calls;
-}
-sync_talks (Err failed) old new s = record {
-  journal_name = s.err.0.journal_name;
-  port_name = s.err.0.port_name;
-  heard = s.err.0.heard;
-  gone = gone s.err.1;
-  plan = s.err.0.plan;
-  syncs = s.count.0;
-  goes = goes_as (λ (outcome : Outcome). Sync outcome) (Err failed) old new s.calls;
-}
-  where
-    gone : Passes old new [] old.now ⊎ Stays old new → new.now.gone ≡ old.now.gone
-    gone (inl passes) = ap (λ (m : Moment). m.gone) passes.now
-    gone (inr stays) = ap (λ (m : Moment). m.gone) stays.now
-
--- ---- both calls
 
 formatted_length : (h : Header) → IsHeader h → length (formatted h) ≡ 28
 formatted_length h is = omega (arith, length-append (header_bytes h) (0 ∷ []), header_length h is)
@@ -88,25 +32,48 @@ module _ (header : Header) (bytes : List ℕ) (is : bytes ≡ formatted header) 
   torn_at r w = subst (λ (n : ℕ). Torn 0 n [] b.journal) (ap length is ∙ formatted_length header titled) (subst (λ (j : List ℕ). Torn 0 (length bytes) j b.journal) empty w.torn)
 
   pub header_failed : (failed : Failed) → Writes 0 bytes (Err failed) a b → WritesHeader header (Err failed) a b
-  header_failed failed w = record { keeps = write_keeps 0 bytes (Err failed) a b w; ok = tt; torn = torn_at (Err failed) w }
+  header_failed failed w = record {
+    keeps = write_keeps 0 bytes (Err failed) a b w;
+    gone = write_gone 0 bytes a b w.time;
+    syncs = omega (arith, w.same.syncs);
+    made = subst (λ (l : List ℕ). Makes (put_calls 0 l) false a b) is (makes_stop (writing 0 bytes ∷ []) (syncing ∷ []) a b (makes_one (writing 0 bytes) (Err failed) a b w.calls));
+    ok = tt;
+    torn = torn_at (Err failed) w;
+  }
 
   module _ (done : Unit {0}) (c : Told) (w : Writes 0 bytes (Ok done) a b) where
     journal_is : b.journal ≡ formatted header
     journal_is = w.ok.0 ∙ ap (λ (j : List ℕ). overwritten j 0 bytes) empty ∙ over_nothing bytes ∙ is
 
+    made_both : (r : Result (Unit {0}) Failed) → Syncs r b c → Makes (put_calls 0 (formatted header)) (is_ok r) a c
+    made_both r s = subst (λ (l : List ℕ). Makes (put_calls 0 l) (is_ok r) a c) is
+        (makes_then (writing 0 bytes ∷ []) (syncing ∷ []) (is_ok r) a b c (makes_one (writing 0 bytes) (Ok done) a b w.calls) (sync_made r b c s))
+
+    count : (r : Result (Unit {0}) Failed) → Syncs r b c → c.syncs ≤ a.syncs + 1
+    count r s = omega (arith, s.count.1, w.same.syncs)
+
+    unfailed : Makes (put_calls 0 (formatted header)) true a c → Unfailed a c
+    unfailed m = record { more = m.kept; calls = m.adds; each = row_fine (put_calls 0 (formatted header)) m.kept (refl, (refl, tt)) m.row }
+
     pub header_written : (r : Result (Unit {0}) Failed) → Syncs r b c → WritesHeader header r a c
     header_written (Ok ended) s = record {
-      keeps = keeps_then a b c (write_keeps 0 bytes (Ok done) a b w) (sync_talks (Ok ended) b c s);
+      keeps = keeps_then a b c (write_keeps 0 bytes (Ok done) a b w) (sync_keeps (Ok ended) b c s);
+      gone = sync_gone (Ok ended) b c s ∙ write_gone 0 bytes a b w.time;
+      syncs = count (Ok ended) s;
+      made = made_both (Ok ended) s;
       ok = (
         s.ok.0.journal ∙ journal_is,
         titled,
         record { sure = ap (λ (m : Moment). m.sure) s.ok.1.now ∙ sym s.ok.0.journal; writes = ap (λ (m : Moment). m.writes) s.ok.1.now },
-        unfailed_then a b c (unfailed_as (λ (outcome : Outcome). Write 0 bytes outcome) done a b refl w.calls) (unfailed_as (λ (outcome : Outcome). Sync outcome) ended b c refl s.calls),
+        unfailed (made_both (Ok ended) s),
       );
       torn = subst (λ (j : List ℕ). Torn 0 28 [] j) (sym s.ok.0.journal) (torn_at (Ok done) w);
     }
     header_written (Err failed) s = record {
-      keeps = keeps_then a b c (write_keeps 0 bytes (Ok done) a b w) (sync_talks (Err failed) b c s);
+      keeps = keeps_then a b c (write_keeps 0 bytes (Ok done) a b w) (sync_keeps (Err failed) b c s);
+      gone = sync_gone (Err failed) b c s ∙ write_gone 0 bytes a b w.time;
+      syncs = count (Err failed) s;
+      made = made_both (Err failed) s;
       ok = tt;
       torn = subst (λ (j : List ℕ). Torn 0 28 [] j) (sym s.err.0.journal) (torn_at (Ok done) w);
     }
@@ -116,29 +83,103 @@ module _ (header : Header) (bytes : List ℕ) (is : bytes ≡ formatted header) 
 pub formatted_holds : (header : Header) → IsHeader header → Holds header [] (formatted header)
 formatted_holds header titled = shut_holds header [] (formatted header) (omega arith) 0 [] (omega arith) (record { titled = titled; each = tt; split = refl })
 
-pub formats_done : (header : Header) (done : Unit {0}) (size : ℕ) (a b c : Told) → a.journal ≡ [] → Reads (Size (Ok size)) a b → WritesHeader header (Ok done) b c → Formats header (Ok tt) a c
-formats_done header done size a b c empty r w = record {
-  keeps = keeps_then a b c (reads_keeps r.time) w.keeps;
-  ok = (empty, w.ok.0, subst (λ (j : List ℕ). Holds header [] j) (sym w.ok.0) (formatted_holds header w.ok.1), w.ok.2);
-  not_empty = λ size is. absurd (no (NotEmpty size) is);
-  station = λ is. absurd (no _ is);
-  unfailed = inr (unfailed_then a b c (reads_unfailed r.calls) w.ok.3);
-}
-  where
-    no : (fault : FormatFault) → (let r : Result (Unit {0}) FormatFault = Ok tt in r) ≡ Err fault → ⊥
-    no fault is = cc
+differ : (one other : FormatFault) → (let r : Result (Unit {0}) FormatFault = Err one in r) ≡ Err other → one ≡ other
+differ one other is = cc
 
-    reads_keeps : Passes a b [] a.now ⊎ Stays a b → KeepsTalk a b
-    reads_keeps time = record { journal_name = r.same.journal_name; port_name = r.same.port_name; heard = r.same.heard; gone = gone time; plan = r.same.plan; syncs = omega (arith, r.same.syncs); goes = goes r.calls }
+not_ok : (fault : FormatFault) → (let r : Result (Unit {0}) FormatFault = Ok tt in r) ≡ Err fault → ⊥
+not_ok fault is = cc
+
+size_apart : (n m : ℕ) → (let r : Result ℕ Failed = Ok n in r) ≡ Ok m → n ≡ m
+size_apart n m is = cc
+
+size_failed : (failed : Failed) (m : ℕ) → (let r : Result ℕ Failed = Err failed in r) ≡ Ok m → ⊥
+size_failed failed m is = cc
+
+module _ (header : Header) (a b : Told) where
+  -- nothing is made behind the question
+  unasked : (size : Result ℕ Failed) (went : Bool) → Reads (Size size) a b → (size ≡ Ok 0 → ⊥) → AsksAndPuts header went a b
+  unasked size went r some =
+      let kept = look_kept (Size size) a b r in
+      record { size = size; first = kept.0; made = []; calls = kept.1 ∙ ap (λ (l : List Call). a.calls ++ l) (sym (append-nil kept.0)); asked = kept.2; puts = inr (some, refl) }
+
+  -- the size could not be had
+  pub formats_unasked : (failed : Failed) → Reads (Size (Err failed)) a b → Formats header (Err Station) a b
+  formats_unasked failed r = record {
+    keeps = look_keeps (Size (Err failed)) a b r;
+    gone = ap (λ (m : Moment). m.gone) (look_now (Size (Err failed)) a b r);
+    syncs = omega (arith, r.same.syncs);
+    calls = unasked (Err failed) false r (size_failed failed 0);
+    ok = tt;
+    not_empty = λ size is. absurd (other size (differ Station (NotEmpty size) is));
+    station = λ is. inl (look_untouched (Size (Err failed)) a b r);
+    unfailed = inl refl;
+  }
+    where
+      other : (size : ℕ) → Station ≡ NotEmpty size → ⊥
+      other size is = cc
+
+  -- the journal has bytes
+  pub formats_full : (size : ℕ) → size ≡ length a.journal → (size ≡ 0 → ⊥) → Reads (Size (Ok size)) a b → Formats header (Err (NotEmpty size)) a b
+  formats_full size long some r = record {
+    keeps = look_keeps (Size (Ok size)) a b r;
+    gone = ap (λ (m : Moment). m.gone) (look_now (Size (Ok size)) a b r);
+    syncs = omega (arith, r.same.syncs);
+    calls = unasked (Ok size) false r (λ is. some (size_apart size 0 is));
+    ok = tt;
+    not_empty = λ other is. (sym (same other (differ (NotEmpty size) (NotEmpty other) is)) ∙ long, more other (same other (differ (NotEmpty size) (NotEmpty other) is)) (cases_eq size 0), look_untouched (Size (Ok size)) a b r);
+    station = λ is. absurd (apart (differ (NotEmpty size) Station is));
+    unfailed = inr (look_unfailed (Size (Ok size)) a b r refl);
+  }
+    where
+      same : (other : ℕ) → NotEmpty size ≡ NotEmpty other → size ≡ other
+      same other is = cc
+
+      apart : NotEmpty size ≡ Station → ⊥
+      apart is = cc
+
+      more : (other : ℕ) → size ≡ other → (size ≡ 0) ⊎ (size ≡ 0 → ⊥) → 0 < other
+      more other is (inl none) = absurd (some none)
+      more other is (inr any) = omega (arith, is, any)
+
+  module _ (size : ℕ) (c : Told) (none : size ≡ 0) (empty : a.journal ≡ []) (r : Reads (Size (Ok size)) a b) where
+    asked : (went : Bool) → Makes (put_calls 0 (formatted header)) went b c → AsksAndPuts header went a c
+    asked went m =
+        let kept = look_kept (Size (Ok size)) a b r in
+        record {
+          size = Ok size;
+          first = kept.0;
+          made = m.kept;
+          calls = m.adds ∙ ap (λ (l : List Call). l ++ m.kept) kept.1 ∙ append_assoc a.calls kept.0 m.kept;
+          asked = kept.2;
+          puts = inl (ap (λ (n : ℕ). let q : Result ℕ Failed = Ok n in q) none, m.row);
+        }
+
+    gone_both : c.now.gone ≡ b.now.gone → c.now.gone ≡ a.now.gone
+    gone_both e = e ∙ ap (λ (m : Moment). m.gone) (look_now (Size (Ok size)) a b r)
+
+    pub formats_done : (done : Unit {0}) → WritesHeader header (Ok done) b c → Formats header (Ok tt) a c
+    formats_done done w = record {
+      keeps = keeps_then a b c (look_keeps (Size (Ok size)) a b r) w.keeps;
+      gone = gone_both w.gone;
+      syncs = omega (arith, r.same.syncs, w.syncs);
+      calls = asked true w.made;
+      ok = (empty, w.ok.0, subst (λ (j : List ℕ). Holds header [] j) (sym w.ok.0) (formatted_holds header w.ok.1), w.ok.2);
+      not_empty = λ size is. absurd (not_ok (NotEmpty size) is);
+      station = λ is. absurd (not_ok Station is);
+      unfailed = inr (unfailed_then a b c (look_unfailed (Size (Ok size)) a b r refl) w.ok.3);
+    }
+
+    pub formats_failed : (failed : Failed) → WritesHeader header (Err failed) b c → Formats header (Err Station) a c
+    formats_failed failed w = record {
+      keeps = keeps_then a b c (look_keeps (Size (Ok size)) a b r) w.keeps;
+      gone = gone_both w.gone;
+      syncs = omega (arith, r.same.syncs, w.syncs);
+      calls = asked false w.made;
+      ok = tt;
+      not_empty = λ size is. absurd (other size (differ Station (NotEmpty size) is));
+      station = λ is. inr (empty, w.torn);
+      unfailed = inl refl;
+    }
       where
-        gone : Passes a b [] a.now ⊎ Stays a b → b.now.gone ≡ a.now.gone
-        gone (inl passes) = ap (λ (m : Moment). m.gone) passes.now
-        gone (inr stays) = ap (λ (m : Moment). m.gone) stays.now
-
-        goes : (b.calls ≡ a.calls) ⊎ (b.calls ≡ a.calls ++ Size (Ok size) ∷ []) → Goes a b
-        goes (inl same) = record { more = []; calls = same ∙ sym (append-nil a.calls) }
-        goes (inr one) = record { more = Size (Ok size) ∷ []; calls = one }
-
-    reads_unfailed : (b.calls ≡ a.calls) ⊎ (b.calls ≡ a.calls ++ Size (Ok size) ∷ []) → Unfailed a b
-    reads_unfailed (inl same) = record { more = []; calls = same ∙ sym (append-nil a.calls); each = refl }
-    reads_unfailed (inr one) = record { more = Size (Ok size) ∷ []; calls = one; each = refl }
+        other : (size : ℕ) → Station ≡ NotEmpty size → ⊥
+        other size is = cc

@@ -1,5 +1,5 @@
 mod Peeling
-mod Apart
+pub mod Apart
 mod Refusing
 mod Titles
 mod Sizes
@@ -7,8 +7,10 @@ mod Fronts
 mod Deciding
 mod Places
 mod Takes
-mod Looking
+pub mod Looking
+mod Calling
 mod Ends
+pub mod Resting
 mod Synced
 mod Gating
 mod Appending

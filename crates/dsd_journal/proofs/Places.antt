@@ -1,16 +1,16 @@
 -- The places of entries.
 use Rattle.std.proofs.Common.{◌≡◌, ℕ, zero, suc, ◌+◌, ◌*◌, ◌<◌, ◌≤◌, List, [], ◌∷◌, ◌++◌, length, get_or, take, refl, ◌∙◌, ap, arith, length-append}
-use Rattle.dsd_journal.specs.declared.limits.TheConstants.{JOURNAL_BYTES}
+use Rattle.dsd_journal.specs.declared.limits.TheConstants.{JOURNAL_BYTES, MOST_ENTRIES}
 use Rattle.dsd_journal.specs.declared.entry.Entry.{Entry}
 use Rattle.dsd_journal.specs.JournalImage.{body, spelled, gate_place, EachFits, IsPayloadLength}
 use Rattle.dsd_journal.specs.Kept.{places_from}
-use Rattle.dsd_journal.proofs.Peeling.{body_length}
+use Rattle.dsd_journal.proofs.Peeling.{body_length, spelled_append}
 
 seven_each : (es : List Entry) → EachFits es → 7 * length es ≤ length (spelled es)
 seven_each [] f = omega arith
 seven_each (e ∷ es) f = omega (arith, seven_each es f.1, f.0.0, length-append (body e) (spelled es), body_length e)
 
-pub few_entries : (es : List Entry) → EachFits es → gate_place es < JOURNAL_BYTES → length es ≤ 9586976
+pub few_entries : (es : List Entry) → EachFits es → gate_place es < JOURNAL_BYTES → length es ≤ MOST_ENTRIES
 few_entries es f below = omega (arith, seven_each es f, below)
 
 pub sized_at : (es : List Entry) (i : ℕ) (none : Entry) → EachFits es → i < length es → IsPayloadLength (length (get_or es i none).payload)
@@ -27,8 +27,21 @@ place_at gate [] i d inside = absurd (omega (arith, inside))
 place_at gate (e ∷ es) zero d inside = omega arith
 place_at gate (e ∷ es) (suc i) d inside = place_at (gate + 1 + length (body e)) es i d (omega (arith, inside)) ∙ omega (arith, length-append (body e) (spelled (take i es)))
 
-pub places_push : (gate : ℕ) (es : List Entry) (e : Entry) → places_from gate (es ++ e ∷ []) ≡ places_from gate es ++ (gate + length (spelled es) + 1) ∷ []
-places_push gate [] e = let same : gate + 1 ≡ gate + 0 + 1 = omega arith in ap (λ (n : ℕ). n ∷ []) same
-places_push gate (x ∷ es) e =
-    let same : gate + 1 + length (body x) + length (spelled es) + 1 ≡ gate + length (spelled (x ∷ es)) + 1 = omega (arith, length-append (body x) (spelled es)) in
-    ap (λ (l : List ℕ). (gate + 1) ∷ l) (places_push (gate + 1 + length (body x)) es e ∙ ap (λ (n : ℕ). places_from (gate + 1 + length (body x)) es ++ n ∷ []) same)
+pub places_append : (gate : ℕ) (es fs : List Entry) → places_from gate (es ++ fs) ≡ places_from gate es ++ places_from (gate + length (spelled es)) fs
+places_append gate [] fs = let same : gate ≡ gate + 0 = omega arith in ap (λ (n : ℕ). places_from n fs) same
+places_append gate (e ∷ es) fs =
+    let same : gate + 1 + length (body e) + length (spelled es) ≡ gate + length (spelled (e ∷ es)) = omega (arith, length-append (body e) (spelled es)) in
+    ap (λ (l : List ℕ). (gate + 1) ∷ l) (places_append (gate + 1 + length (body e)) es fs ∙ ap (λ (n : ℕ). places_from (gate + 1 + length (body e)) es ++ places_from n fs) same)
+
+-- ---- entries behind others
+
+pub gate_append : (es fs : List Entry) → gate_place (es ++ fs) ≡ gate_place es + length (spelled fs)
+gate_append es fs = omega (arith, ap length (spelled_append es fs), length-append (spelled es) (spelled fs))
+
+pub spelled_some : (es : List Entry) → 0 < length es → 0 < length (spelled es)
+spelled_some [] some = absurd (omega (arith, some))
+spelled_some (e ∷ es) some = omega arith
+
+pub none_of : {A : Type 0} (l : List A) → length l ≡ 0 → l ≡ []
+none_of [] e = refl
+none_of (x ∷ l) e = absurd (omega (arith, e))

@@ -1,19 +1,14 @@
 -- A sync, and calls that only look behind it.
-use Rattle.std.proofs.Common.{◌≡◌, ◌⊎◌, inl, inr, ℕ, List, [], ◌∷◌, ◌++◌, sym, ◌∙◌, ap, subst, arith, append-nil, append_assoc, Result, Ok, Err, IfErr}
+use Rattle.std.proofs.Common.{◌≡◌, ◌⊎◌, inl, inr, ℕ, List, [], ◌∷◌, ◌++◌, sym, ◌∙◌, ap, subst, arith, Bool, true, false, refl, append-nil, append_assoc, Result, Ok, Err, is_ok, IfErr}
 use Rattle.dsd_station.specs.declared.failed.Failed.{Failed}
 use Rattle.dsd_station.specs.declared.call.Call.{Call}
-use Rattle.dsd_station.specs.declared.call.Call.TheVariants.{Sync}
-use Rattle.dsd_station.specs.declared.call.Outcome.{Outcome}
-use Rattle.dsd_station.specs.Effects.{Syncs, AddsAs, Passes, Stays, synced}
-use Rattle.dsd_station.specs.Puts.{Goes}
+use Rattle.dsd_station.specs.Effects.{Syncs, Passes, Stays, synced}
+use Rattle.dsd_station.specs.Rows.{Makes}
 use Rattle.dsd_station.specs.Stops.{then, weaken, passed, stayed, syncs_stops}
 use Rattle.dsd_station.specs.Told.{Told, Moment, Allows, EachStop, LeavesAt}
-use Rattle.dsd_journal.specs.Devices.{KeepsTalk, Untouched, Looks, SinceSync, Opens}
+use Rattle.dsd_journal.specs.Devices.{Untouched, Looks, SinceSync, SyncsAndReads, Opens}
+use Rattle.dsd_journal.proofs.Calling.{sync_keeps, sync_made, syncing}
 use Rattle.dsd_journal.proofs.Looking.{keeps_then}
-
-pub goes_as : (call : Outcome → Call) (result : Result (Unit {0}) Failed) (old new : Told) → AddsAs call result old new → Goes old new
-goes_as call result old new (inl same) = record { more = []; calls = same ∙ sym (append-nil old.calls) }
-goes_as call result old new (inr one) = record { more = call one.0 ∷ []; calls = one.2 }
 
 -- a sync that failed
 module _ (a b : Told) (failed : Failed) (s : Syncs (Err failed) a b) where
@@ -26,31 +21,17 @@ module _ (a b : Told) (failed : Failed) (s : Syncs (Err failed) a b) where
 
   pub opens_not : (F : Type 0) → F → Opens F a b
   opens_not F fault = record {
-    keeps = record {
-      journal_name = s.err.0.journal_name;
-      port_name = s.err.0.port_name;
-      heard = s.err.0.heard;
-      gone = ap (λ (m : Moment). m.gone) untouched.now;
-      plan = s.err.0.plan;
-      syncs = s.count.0;
-      goes = goes_as (λ (outcome : Outcome). Sync outcome) (Err failed) a b s.calls;
-    };
+    keeps = sync_keeps (Err failed) a b s;
+    gone = ap (λ (m : Moment). m.gone) untouched.now;
+    calls = alone (sync_made (Err failed) a b s);
     journal = s.err.0.journal;
     syncs = s.count.1;
     stops = weaken (λ image out. LeavesAt a.now image out ⊎ ((image ≡ a.journal) × (out ≡ a.now.gone))) untouched.stops (λ image out left. inl left);
     later = inl (fault, untouched);
   }
-
-pub sync_keeps : (done : Unit {0}) (old new : Told) → Syncs (Ok done) old new → KeepsTalk old new
-sync_keeps done old new s = record {
-  journal_name = s.ok.0.journal_name;
-  port_name = s.ok.0.port_name;
-  heard = s.ok.0.heard;
-  gone = ap (λ (m : Moment). m.gone) s.ok.1.now;
-  plan = s.ok.0.plan;
-  syncs = s.count.0;
-  goes = goes_as (λ (outcome : Outcome). Sync outcome) (Ok done) old new s.calls;
-}
+    where
+      alone : Makes (syncing ∷ []) false a b → SyncsAndReads a b
+      alone m = record { went = false; first = m.kept; reads = []; calls = m.adds ∙ ap (λ (l : List Call). a.calls ++ l) (sym (append-nil m.kept)); sync = m.row; each = tt; ends = λ failed. refl }
 
 module _ (a b c : Told) (done : Unit {0}) (F : Type 0) (s : Syncs (Ok done) a b) (l : Looks F b c) where
   abbrev Sure : List ℕ → List ℕ → Type 0
@@ -79,13 +60,32 @@ module _ (a b c : Told) (done : Unit {0}) (F : Type 0) (s : Syncs (Ok done) a b)
 
   pub opens : Opens F a c
   opens = record {
-    keeps = keeps_then a b c (sync_keeps done a b s) l.keeps;
+    keeps = keeps_then a b c (sync_keeps (Ok done) a b s) l.keeps;
+    gone = ap (λ (m : Moment). m.gone) l.untouched.now ∙ ap (λ (m : Moment). m.gone) s.ok.1.now;
+    calls = behind_sync (sync_made (Ok done) a b s);
     journal = l.untouched.journal ∙ s.ok.0.journal;
     syncs = omega (arith, l.syncs, s.count.1);
     stops = then (syncs_stops (Ok done) a b Left s (λ image out left. inl left) behind)
         (weaken Left l.untouched.stops (λ image out left. subst (λ (m : Moment). Allows m Left) (sym s.ok.1.now) behind image out left));
     later = inr since;
   }
+    where
+      not_both : true ≡ false → l.only.reads ≡ []
+      not_both e = absurd (no e)
+        where
+          no : true ≡ false → ⊥
+          no e = cc
+
+      behind_sync : Makes (syncing ∷ []) true a b → SyncsAndReads a c
+      behind_sync m = record {
+        went = true;
+        first = m.kept;
+        reads = l.only.reads;
+        calls = l.only.calls ∙ ap (λ (k : List Call). k ++ l.only.reads) m.adds ∙ append_assoc a.calls m.kept l.only.reads;
+        sync = m.row;
+        each = l.only.each;
+        ends = not_both;
+      }
 
 pub if_err : (T E : Type 0) (r : Result T E) (P : E → Type 0) (e : E) → IfErr r P → r ≡ Err e → P e
 if_err T E (Ok x) P e h is = absurd (no x e is)

@@ -1,6 +1,7 @@
 -- Entries taken one after the other.
 use Rattle.std.proofs.Common.{◌≡◌, inl, inr, ℕ, ◌+◌, ◌<◌, ◌≤◌, List, [], ◌∷◌, ◌++◌, ◌-◌, length, drop, refl, sym, ◌∙◌, ap, subst, arith, append_assoc, length-append, Result, Ok, Err, IsErrAnd}
 use Rattle.std.proofs.lemmas.List.{append-nil, drop_at}
+use Rattle.dsd_values.specs.declared.limits.TheConstants.{SET_BYTES}
 use Rattle.dsd_journal.specs.declared.limits.TheConstants.{JOURNAL_BYTES}
 use Rattle.dsd_journal.specs.declared.entry.Entry.{Entry}
 use Rattle.dsd_journal.specs.declared.entry.EntryKind.{EntryKind}
@@ -16,17 +17,6 @@ each_append (e ∷ es) fs f g = (f.0, each_append es fs f.1 g)
 
 pub takes_none : (es : List Entry) (bytes : List ℕ) → Takes es es bytes bytes
 takes_none es bytes = record { more = []; each = tt; list = sym (append-nil es); split = refl }
-
-pub takes_one : (es new : List Entry) (kind : EntryKind) (payload behind rest bytes : List ℕ) (gate : ℕ) → bytes ≡ open_gate ∷ behind → IsWhole gate behind kind payload rest
-    → new ≡ es ++ (record { kind = kind; payload = payload }) ∷ [] → Takes es new bytes rest
-takes_one es new kind payload behind rest bytes gate is whole list =
-    let e : Entry = record { kind = kind; payload = payload } in
-    record {
-      more = e ∷ [];
-      each = (whole.sized, tt);
-      list = list;
-      split = is ∙ ap (λ (l : List ℕ). open_gate ∷ l) (whole.split ∙ ap (λ (l : List ℕ). l ++ rest) (sym (append-nil (body e))));
-    }
 
 pub takes_then : (a b c : List Entry) (x y z : List ℕ) → Takes a b x y → Takes b c y z → Takes a c x z
 takes_then a b c x y z p q = record {
@@ -72,10 +62,10 @@ pub takes_counted : (es fs : List Entry) (x y : List ℕ) → Takes es fs x y �
 takes_counted es fs x y t = omega (arith, ap length t.split, length-append (spelled t.more) y, ap gate_place t.list, ap length (spelled_append es t.more), length-append (spelled es) (spelled t.more))
 
 -- bytes that wait for more are few
-pub waiting_short : (gate : ℕ) (bytes : List ℕ) → IsWaiting gate bytes → length bytes ≤ 262149
+pub waiting_short : (gate : ℕ) (bytes : List ℕ) → IsWaiting gate bytes → length bytes ≤ SET_BYTES + 5
 waiting_short gate bytes (inl none) = omega (arith, ap length none)
 waiting_short gate bytes (inr w) = omega (arith, ap length w.1, w.2.short, body_length w.2.starts.entry, w.2.starts.sized.1)
 
 -- while bytes wait for more, the place is not far
-pub low_place : (at : ℕ) (es fs : List Entry) (x y : List ℕ) → at ≡ gate_place es + length x → Takes es fs x y → gate_place fs < JOURNAL_BYTES → IsWaiting (gate_place fs) y → at < 67371014
+pub low_place : (at : ℕ) (es fs : List Entry) (x y : List ℕ) → at ≡ gate_place es + length x → Takes es fs x y → gate_place fs < JOURNAL_BYTES → IsWaiting (gate_place fs) y → at < JOURNAL_BYTES + SET_BYTES + 6
 low_place at es fs x y counted taken near waits = omega (arith, counted, takes_counted es fs x y taken, near, waiting_short (gate_place fs) y waits)

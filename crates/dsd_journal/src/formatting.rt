@@ -1,6 +1,6 @@
 //! Making a journal.
 
-ghost use Rattle.std.specs.Prelude.{◌≤◌, ◌≡◌, [], Err};
+ghost use Rattle.std.specs.Prelude.{◌≤◌, ◌≡◌, ◌⊎◌, [], Err};
 ghost use Rattle.dsd_station.specs.Causes.{HasCause, Rose};
 ghost use Rattle.dsd_station.specs.Told.{ReadMayStay};
 ghost use Rattle.dsd_journal.specs.Devices.{Formats, WritesHeader};
@@ -33,6 +33,7 @@ pub fn format<T: Station>(
 ) -> Result<(), FormatFault>
     ensures later { T.faults station.old ≤ T.faults station.new }
     ensures cause { result ≡ Err FormatFault.Station → Rose (T.faults station.old) (T.faults station.new) }
+    ensures kept { (result ≡ Err FormatFault.Station) ⊎ (T.faults station.new ≡ T.faults station.old) }
     ensures told { T.tells → Formats (record { role = role; own = own; peer = peer }) result (T.told station.old) (T.told station.new) }
     ensures stays { T.tells → ReadMayStay (T.told station.new) }
 {
@@ -46,7 +47,7 @@ pub fn format<T: Station>(
     }
 }
 
-// Writes the header and a closed gate over an empty journal, and makes sure of them.
+/// Writes the header and a closed gate over an empty journal, and makes sure of them.
 fn write_header<T: Station>(station: &mut T, header: &Header) -> Result<(), Failed>
     ensures cause { HasCause (T.faults station.old) (T.faults station.new) result }
     ensures told { T.tells → (T.told station.old).journal ≡ [] → WritesHeader header.now result (T.told station.old) (T.told station.new) }

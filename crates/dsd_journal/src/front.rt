@@ -8,12 +8,12 @@ use crate::entry::EntryKind;
 use crate::limits::JOURNAL_BYTES;
 use dsd_values::SET_BYTES;
 
-// How many bytes a payload's length has.
+/// How many bytes a payload's length has.
 const SIZE_BYTES: usize = 4;
 
-// Reads an entry: its kind, its payload and what is behind them. There is none where the bytes end inside one. An
-// `Err` is the place of the first byte with which no entry goes on, or of the kind of one that has no place for the
-// gate behind it.
+/// Reads an entry: its kind, its payload and what is behind them. There is none where the bytes end inside one. An
+/// `Err` is the place of the first byte with which no entry goes on, or of the kind of one that has no place for the
+/// gate behind it.
 pub(crate) fn read_entry(gate: u64, behind: &[u8]) -> Result<Option<(EntryKind, &[u8], &[u8])>, u64>
     requires { gate < JOURNAL_BYTES }
     ensures found { IfOk result (λ found. MatchOption found (IsUnfinished gate behind.now) (λ e. IsWhole gate behind.now e.0 e.1.now e.2.now)) }
@@ -42,7 +42,7 @@ fn find_entry(gate: u64, behind: &[u8]) -> Result<Option<(EntryKind, &[u8], &[u8
     }
 }
 
-// The kind, the payload of this length that stands behind its length, and what is behind it.
+/// The kind, the payload of this length that stands behind its length, and what is behind it.
 fn cut_entry(kind: EntryKind, sized: &[u8], size: usize) -> (EntryKind, &[u8], &[u8])
     requires { 4 + size ≤ length sized.now }
     ensures kind { result.0 ≡ kind }
@@ -63,7 +63,7 @@ fn kind_of(letter: u8) -> Option<EntryKind>
     }
 }
 
-// Reads a length of four bytes, the greatest first, or says how many of them some length has.
+/// Reads a length of four bytes, the greatest first, or says how many of them some length has.
 fn read_size(bytes: &[u8]) -> Result<usize, usize>
     ensures exact { result ≡ size_of bytes.now }
     ensures most { IfOk result (λ size. size ≤ MOST_BYTES) }
@@ -81,14 +81,14 @@ fn read_size(bytes: &[u8]) -> Result<usize, usize>
     }
 }
 
-// Whether some length goes on with the third byte.
+/// Whether some length goes on with the third byte.
 fn third_goes_on(second: u8, third: u8) -> bool
     ensures { result ≡ (nat_lt third 256 && (nat_lt second 4 || third == 0)) }
 {
     second < 4 || third == 0
 }
 
-// The length with these bytes behind a 0.
+/// The length with these bytes behind a 0.
 fn read_last(second: u8, third: u8, fourth: u8) -> Result<usize, usize>
     ensures { result ≡ size_fourth second third (fourth ∷ []) }
 {

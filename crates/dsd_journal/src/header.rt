@@ -20,7 +20,7 @@ pub struct Header {
     pub peer: CommId,
 }
 
-// Reads the header at the front of bytes, or says where they are none.
+/// Reads the header at the front of bytes, or says where they are none.
 pub(crate) fn read_header(bytes: &[u8]) -> Result<Header, usize>
     ensures ok { IfOk result (λ header. Leads header [] (drop 27 bytes.now) bytes.now) }
     ensures long { IfOk result (λ header. 27 ≤ length bytes.now) }
@@ -36,7 +36,7 @@ pub(crate) fn read_header(bytes: &[u8]) -> Result<Header, usize>
     Ok(header_in(front))
 }
 
-// The place of the first byte that may not stand there.
+/// The place of the first byte that may not stand there.
 fn first_misfit(bytes: &[u8]) -> Option<usize>
     ensures { MatchOption result (FitsBelow (length bytes.now) bytes.now)
         (λ place. (place < length bytes.now) × FitsBelow place bytes.now × (header_fits place (slice_index_or bytes.now place 0) ≡ false)) }
@@ -49,7 +49,7 @@ fn first_misfit(bytes: &[u8]) -> Option<usize>
     None
 }
 
-// Whether a byte may stand at this place of a header.
+/// Whether a byte may stand at this place of a header.
 fn fits(place: usize, byte: u8) -> bool
     ensures { result ≡ header_fits place byte }
 {
@@ -61,7 +61,7 @@ fn fits(place: usize, byte: u8) -> bool
     }
 }
 
-// The header of 27 bytes that fit.
+/// The header of 27 bytes that fit.
 fn header_in(bytes: &[u8]) -> Header
     requires whole { length bytes.now ≡ 27 }
     requires fits { FitsBelow 27 bytes.now }
@@ -101,7 +101,7 @@ fn role_letter(role: Role) -> u8
     }
 }
 
-// The bytes of a journal without entries.
+/// The bytes of a journal without entries.
 pub(crate) fn formatted_bytes(header: &Header) -> ArrayVec<u8, 28>
     ensures items { result.items ≡ formatted header.now }
     ensures titled { IsHeader header.now }

@@ -1,7 +1,7 @@
 //! The journal of an end: entries behind gates, which a stop leaves whole.
 #![tactic(auto)]
 
-mod append_fault;
+mod adding_fault;
 mod batch;
 mod entries;
 mod entry;
@@ -17,13 +17,13 @@ mod reading;
 mod steps;
 mod taking;
 
-pub use append_fault::AppendFault;
+pub use adding_fault::{AppendFault, FlushFault, StageFault};
 pub use entry::{Entry, EntryKind};
 pub use formatting::{FormatFault, format};
 pub use header::Header;
 pub use journal::Journal;
 pub use laws::{an_image_holds_one_list, an_image_is_held_or_refused};
-pub use limits::JOURNAL_BYTES;
+pub use limits::{JOURNAL_BYTES, MOST_ENTRIES};
 pub use opening::{OpenFault, open_journal};
 
 #[cfg(test)]

@@ -3,6 +3,9 @@
 /// The most bytes of a journal: the closed gate behind its entries stands below this place.
 pub const JOURNAL_BYTES: u64 = 67_108_864;
 
+/// The most entries of a journal: each takes at least 7 bytes behind the header.
+pub const MOST_ENTRIES: usize = 9_586_976;
+
 /// How many bytes a header has.
 pub(crate) const HEADER_BYTES: usize = 27;
 

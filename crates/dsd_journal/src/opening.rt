@@ -1,6 +1,6 @@
 //! Opening the journal that an image holds.
 
-ghost use Rattle.std.specs.Prelude.{◌≤◌, ◌≡◌, ◌⊎◌, ℕ, length, Err, IfErr, IfOk, IsTrue, true};
+ghost use Rattle.std.specs.Prelude.{◌≤◌, ◌≡◌, ◌⊎◌, ℕ, [], length, Err, IfErr, IfOk, IsTrue, true};
 ghost use Rattle.dsd_station.specs.Causes.{Rose};
 ghost use Rattle.dsd_station.specs.Told.{IsSynced, ReadMayStay};
 ghost use Rattle.dsd_journal.specs.Devices.{IsStationFault, Looks, Opens, Unfailed};
@@ -47,9 +47,11 @@ impl From<Memory> for OpenFault {
 pub fn open_journal<T: Station>(alloc: Global, station: &mut T) -> Result<Journal, OpenFault>
     ensures later { T.faults station.old ≤ T.faults station.new }
     ensures cause { result ≡ Err OpenFault.Station → Rose (T.faults station.old) (T.faults station.new) }
+    ensures kept { IsStationFault result ⊎ (T.faults station.new ≡ T.faults station.old) }
     // The entries are those that the image holds, and then they survive each stop.
-    ensures ok { T.tells → IfOk result (λ journal. Rests journal (T.told station.new)) }
+    ensures ok { T.tells → IfOk result (λ journal. Rests journal.header journal.entries (T.told station.new)) }
     ensures works { IfOk result (λ journal. IsTrue journal.works) }
+    ensures staged { IfOk result (λ journal. journal.staged ≡ []) }
     // The image is refused there: it holds no journal.
     ensures refused { T.tells → (place : ℕ) → result ≡ Err (OpenFault.NotAJournal place) → IsRefused (T.told station.old).journal place }
     // No call of the station has failed, and all of its journal is sure, unless `Station` is answered.
@@ -64,12 +66,14 @@ pub fn open_journal<T: Station>(alloc: Global, station: &mut T) -> Result<Journa
     }
 }
 
-// Opens the journal that the station's image holds, without a sync.
+/// Opens the journal that the station's image holds, without a sync.
 fn open_image<T: Station>(alloc: Global, station: &mut T) -> Result<Journal, OpenFault>
     ensures later { T.faults station.old ≤ T.faults station.new }
     ensures cause { result ≡ Err OpenFault.Station → Rose (T.faults station.old) (T.faults station.new) }
+    ensures kept { IsStationFault result ⊎ (T.faults station.new ≡ T.faults station.old) }
     ensures held { T.tells → IfOk result (λ journal. Holds journal.header journal.entries (T.told station.old).journal) }
     ensures works { IfOk result (λ journal. IsTrue journal.works) }
+    ensures staged { IfOk result (λ journal. journal.staged ≡ []) }
     ensures refused { T.tells → IfErr result (λ fault. (place : ℕ) → fault ≡ OpenFault.NotAJournal place → IsRefused (T.told station.old).journal place) }
     ensures told { T.tells → Looks (IsStationFault result) (T.told station.old) (T.told station.new) }
 {

@@ -1,6 +1,6 @@
 //! Reading an image piece by piece.
 
-ghost use Rattle.std.specs.Prelude.{◌≡◌, ◌≢◌, ◌+◌, ◌<◌, ◌≤◌, ◌^◌, ℕ, Err, [], drop, length, IfOk, vec_len};
+ghost use Rattle.std.specs.Prelude.{◌≡◌, ◌≢◌, ◌⊎◌, ◌+◌, ◌<◌, ◌≤◌, ◌^◌, ℕ, Err, [], drop, length, IfOk, vec_len};
 ghost use Rattle.dsd_station.specs.Causes.{Rose};
 ghost use Rattle.dsd_journal.specs.Devices.{IsStationFault, Looks};
 ghost use Rattle.dsd_journal.specs.Pieces.{IsSoFar, ReadsOn};
@@ -9,10 +9,10 @@ use crate::limits::HEADER_BYTES;
 use crate::opening::OpenFault;
 use dsd_station::Station;
 
-// How many bytes are asked for at once.
+/// How many bytes are asked for at once.
 pub(crate) const PIECE_BYTES: usize = 65_536;
 
-// Reads once from a place on, through the lent piece, and puts what came behind the bytes. A 0 is the image's end.
+/// Reads once from a place on, through the lent piece, and puts what came behind the bytes. A 0 is the image's end.
 pub(crate) fn read_more<T: Station>(
     station: &mut T,
     at: u64,
@@ -21,6 +21,7 @@ pub(crate) fn read_more<T: Station>(
 ) -> Result<u64, OpenFault>
     ensures later { T.faults station.old ≤ T.faults station.new }
     ensures cause { result ≡ Err OpenFault.Station → Rose (T.faults station.old) (T.faults station.new) }
+    ensures kept { IsStationFault result ⊎ (T.faults station.new ≡ T.faults station.old) }
     ensures no_refusal { (place : ℕ) → result ≢ Err (OpenFault.NotAJournal place) }
     ensures piece { length piece.new ≡ length piece.old }
     ensures len { IfOk result (λ count. vec_len bytes.new ≡ vec_len bytes.old + count) }
@@ -37,7 +38,7 @@ pub(crate) fn read_more<T: Station>(
     }
 }
 
-// Reads the front of an image: at least a header's bytes, where it has them. Answers up to which place.
+/// Reads the front of an image: at least a header's bytes, where it has them. Answers up to which place.
 pub(crate) fn read_front<T: Station>(
     station: &mut T,
     bytes: &mut Vec<u8>,
@@ -47,6 +48,7 @@ pub(crate) fn read_front<T: Station>(
     requires piece { length piece.old ≡ PIECE_BYTES }
     ensures later { T.faults station.old ≤ T.faults station.new }
     ensures cause { result ≡ Err OpenFault.Station → Rose (T.faults station.old) (T.faults station.new) }
+    ensures kept { IsStationFault result ⊎ (T.faults station.new ≡ T.faults station.old) }
     ensures no_refusal { (place : ℕ) → result ≢ Err (OpenFault.NotAJournal place) }
     ensures piece { length piece.new ≡ PIECE_BYTES }
     ensures len { IfOk result (λ at. vec_len bytes.new ≡ at) }
@@ -65,7 +67,7 @@ pub(crate) fn read_front<T: Station>(
     Ok(at)
 }
 
-// Drops bytes at the front.
+/// Drops bytes at the front.
 pub(crate) fn cut_front(bytes: &mut Vec<u8>, count: usize)
     requires { count ≤ vec_len bytes.old }
     ensures { bytes.new.items ≡ drop count bytes.old.items }

@@ -1,6 +1,6 @@
 //! Reading the journal that an image holds.
 
-ghost use Rattle.std.specs.Prelude.{◌≡◌, ◌≢◌, ◌+◌, ◌<◌, ◌≤◌, ℕ, Err, false, true, [], length, IfErr, IfOk, OnOk, vec_len};
+ghost use Rattle.std.specs.Prelude.{◌≡◌, ◌≢◌, ◌⊎◌, ◌+◌, ◌<◌, ◌≤◌, ℕ, Err, false, true, [], length, IfErr, IfOk, OnOk, vec_len};
 ghost use Rattle.dsd_station.specs.Causes.{Rose};
 ghost use Rattle.dsd_journal.specs.Devices.{IsStationFault, Looks};
 ghost use Rattle.dsd_journal.specs.FirstBad.{IsRefused};
@@ -17,7 +17,7 @@ use crate::taking::take_entries;
 use dsd_station::Station;
 use std::alloc::Global;
 
-// What was read of an image up to a place: the header, entries, and the bytes behind them.
+/// What was read of an image up to a place: the header, entries, and the bytes behind them.
 #[derive(Drop)]
 pub(crate) struct Reading {
     pub(crate) header: Header,
@@ -26,7 +26,7 @@ pub(crate) struct Reading {
     pub(crate) at: u64,
 }
 
-// Reads the header at the front of the bytes of an image up to a place.
+/// Reads the header at the front of the bytes of an image up to a place.
 fn begin(alloc: Global, bytes: Vec<u8>, at: u64) -> Result<Reading, usize>
     requires { vec_len bytes ≡ at }
     ensures read { IfOk result (λ reading. Leads reading.header reading.entries.list reading.bytes.items bytes.items) }
@@ -46,7 +46,7 @@ fn begin(alloc: Global, bytes: Vec<u8>, at: u64) -> Result<Reading, usize>
     })
 }
 
-// Takes the entries that stand whole at the front of the bytes, and answers whether a closed gate is behind them.
+/// Takes the entries that stand whole at the front of the bytes, and answers whether a closed gate is behind them.
 fn take_front(alloc: Global, entries: &mut Entries, bytes: &mut Vec<u8>) -> Result<bool, OpenFault>
     ensures taken { OnOk result (Takes entries.old.list entries.new.list bytes.old.items bytes.new.items) }
     ensures shut { IfOk result (λ shut. shut ≡ true → IsShut bytes.new.items) }
@@ -77,7 +77,7 @@ fn is_shut(bytes: &[u8]) -> bool
     }
 }
 
-// Reads on until a closed gate stands behind the entries.
+/// Reads on until a closed gate stands behind the entries.
 fn read_entries<T: Station>(
     alloc: Global,
     station: &mut T,
@@ -89,6 +89,7 @@ fn read_entries<T: Station>(
     requires read { T.tells → IsRead (T.told station.old).journal reading.old }
     ensures later { T.faults station.old ≤ T.faults station.new }
     ensures cause { result ≡ Err OpenFault.Station → Rose (T.faults station.old) (T.faults station.new) }
+    ensures kept { IsStationFault result ⊎ (T.faults station.new ≡ T.faults station.old) }
     ensures held { T.tells → OnOk result (Holds reading.new.header reading.new.entries.list (T.told station.old).journal) }
     ensures refused { T.tells → IfErr result (λ fault. (place : ℕ) → fault ≡ OpenFault.NotAJournal place → IsRefused (T.told station.old).journal place) }
     ensures told { T.tells → Looks (IsStationFault result) (T.told station.old) (T.told station.new) }
@@ -107,7 +108,7 @@ fn read_entries<T: Station>(
     }
 }
 
-// Reads the front of the station's image: its header, and what came with it.
+/// Reads the front of the station's image: its header, and what came with it.
 fn read_head<T: Station>(
     alloc: Global,
     station: &mut T,
@@ -116,6 +117,7 @@ fn read_head<T: Station>(
     requires piece { length piece.old ≡ PIECE_BYTES }
     ensures later { T.faults station.old ≤ T.faults station.new }
     ensures cause { result ≡ Err OpenFault.Station → Rose (T.faults station.old) (T.faults station.new) }
+    ensures kept { IsStationFault result ⊎ (T.faults station.new ≡ T.faults station.old) }
     ensures piece { length piece.new ≡ PIECE_BYTES }
     ensures counted { IfOk result IsCounted }
     ensures read { T.tells → IfOk result (λ reading. IsRead (T.told station.old).journal reading) }
@@ -132,7 +134,7 @@ fn read_head<T: Station>(
     }
 }
 
-// Reads the journal that the station's image holds: its header and its entries.
+/// Reads the journal that the station's image holds: its header and its entries.
 pub(crate) fn read_journal<T: Station>(
     alloc: Global,
     station: &mut T,
@@ -141,6 +143,7 @@ pub(crate) fn read_journal<T: Station>(
     requires piece { length piece.old ≡ PIECE_BYTES }
     ensures later { T.faults station.old ≤ T.faults station.new }
     ensures cause { result ≡ Err OpenFault.Station → Rose (T.faults station.old) (T.faults station.new) }
+    ensures kept { IsStationFault result ⊎ (T.faults station.new ≡ T.faults station.old) }
     ensures held { T.tells → IfOk result (λ reading. Holds reading.header reading.entries.list (T.told station.old).journal) }
     ensures refused { T.tells → IfErr result (λ fault. (place : ℕ) → fault ≡ OpenFault.NotAJournal place → IsRefused (T.told station.old).journal place) }
     ensures told { T.tells → Looks (IsStationFault result) (T.told station.old) (T.told station.new) }

@@ -8,8 +8,8 @@ ghost use Rattle.dsd_journal.specs.Steps.{Opened};
 use crate::limits::OPEN_GATE;
 use dsd_station::{Failed, Station, write_through};
 
-// Writes bytes behind a closed gate, makes sure of them, opens the gate and makes sure of it. Were the gate open
-// before the bytes are sure, a stop could leave any bytes behind it.
+/// Writes bytes behind a closed gate, makes sure of them, opens the gate and makes sure of it. Were the gate open
+/// before the bytes are sure, a stop could leave any bytes behind it.
 pub(crate) fn open_gate<T: Station>(station: &mut T, gate: u64, bytes: &[u8]) -> Result<(), Failed>
     requires place { gate < 2 ^ 32 }
     requires within { T.tells → gate < length (T.told station.old).journal }

@@ -12,7 +12,7 @@ use crate::opening::OpenFault;
 use dsd_values::{Memory, SetText};
 use std::alloc::Global;
 
-// Takes all entries that stand whole at the front of bytes, and answers what is behind them.
+/// Takes all entries that stand whole at the front of bytes, and answers what is behind them.
 pub(crate) fn take_entries<'a>(
     alloc: Global,
     entries: &mut Entries,
@@ -30,7 +30,7 @@ pub(crate) fn take_entries<'a>(
     Ok(rest)
 }
 
-// Takes the entry at the front of bytes, and answers what is behind it, or nothing where none stands there whole.
+/// Takes the entry at the front of bytes, and answers what is behind it, or nothing where none stands there whole.
 fn take_entry<'a>(
     alloc: Global,
     entries: &mut Entries,
@@ -74,7 +74,7 @@ fn keep_entry(
     requires near { gate_place entries.old.list + 6 + length payload.now < JOURNAL_BYTES }
     ensures { OnOk result (entries.new.list ≡ entries.old.list ++ (record { kind = kind; payload = payload.now }) ∷ []) }
 {
-    entries.reserve()?;
+    entries.reserve(1)?;
     let payload = SetText::from_bytes(Vec::from_slice(alloc, payload)?);
     entries.push_reserved(Entry { kind, payload });
     Ok(())

@@ -9,6 +9,7 @@ invariant-loop-at g l = record {
   len : vec_len l.bytes ≡ l.at;
   piece : length l.piece ≡ PIECE_BYTES;
   later : g.T.Station.faults l.fn.station ≤ g.T.Station.faults l.station;
+  kept : g.T.Station.faults l.station ≡ g.T.Station.faults l.fn.station;
   bytes : g.T.Station.tells → IsSoFar (g.T.Station.told l.fn.station).journal l.at l.bytes.items;
   told : g.T.Station.tells → Looks ⊥ (g.T.Station.told l.fn.station) (g.T.Station.told l.station);
 }

@@ -1,4 +1,4 @@
-use Rattle.std.proofs.Common.{◌≡◌, ◌≤◌, ◌+◌, ℕ, List, Bool, length, take, drop, ◌++◌, sym, subst, ◌∙◌, arith, Result, Err}
+use Rattle.std.proofs.Common.{inl, inr, ◌≡◌, ◌≤◌, ◌+◌, ℕ, List, Bool, length, take, drop, ◌++◌, sym, subst, ◌∙◌, arith, Result, Err}
 use Rattle.dsd_journal.specs.declared.opening.OpenFault.{OpenFault}
 use Rattle.dsd_journal.specs.declared.opening.OpenFault.TheVariants.{NotAJournal}
 use Rattle.dsd_journal.specs.declared.entry.Entry.{Entry}
@@ -85,6 +85,7 @@ loop-fault-preserved g c =
       counted = omega (arith, was.counted, takes_counted es fs x y c.in-Ok-false.ensures.taken, c.in-Ok.ensures.len);
       piece = c.in-Ok.ensures.piece ∙ was.piece;
       later = omega (arith, was.later, c.in-Ok.ensures.later);
+      kept = elim (c.in-Ok.ensures.kept) [ inl failed ↦ absurd failed | inr same ↦ same ∙ was.kept ];
       read = λ tells. (let on = read_on header es fs x y c.read_more.new.bytes.items image at (length c.loop-fault.piece) c.in-Ok.count c.in-Ok-false.ensures.taken (was.read tells).leads (was.read tells).inside
           (subst (λ j. ReadsOn j at (length c.loop-fault.piece) c.in-Ok.count y c.read_more.new.bytes.items) (was.told tells).untouched.journal (c.in-Ok.ensures.bytes tells)) in record { leads = on.0; inside = on.1 });
       told = λ tells. looks_then ⊥ ⊥ (g.T.Station.told c.args.station.now) (g.T.Station.told c.loop-fault.station) (g.T.Station.told c.read_more.new.station) (was.told tells) (λ f. f) (c.in-Ok.ensures.told tells);
