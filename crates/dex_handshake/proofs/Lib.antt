@@ -1,0 +1,11 @@
+pub mod Facing
+pub mod Turning
+pub mod Hearing
+pub mod Quiets
+pub mod Wires
+pub mod Relied
+pub mod Loads
+pub mod Spoken
+pub mod Sayings
+pub mod SoundTable
+pub mod SilentTurns
