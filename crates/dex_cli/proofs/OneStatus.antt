@@ -1,20 +1,22 @@
 -- Words and bytes leave one status.
-use Rattle.std.proofs.Common.{◌≡◌, ◌≢◌, ℕ, ◌<◌, ◌≤◌, ◌⊎◌, inl, inr, List, [], ◌∷◌, ◌++◌, length, Option, Some, None, refl, sym, ap, ◌∙◌, subst, arith, append-nil, length-append, if◌then◌else◌}
+use Rattle.std.proofs.Common.{◌≡◌, ◌≢◌, ℕ, ◌<◌, ◌≤◌, ◌⊎◌, inl, inr, List, [], ◌∷◌, ◌++◌, length, Option, Some, None, refl, sym, ap, ◌∙◌, subst, arith, append-nil, length-append}
 use Rattle.std.proofs.lemmas.Bool.{cases_lt}
 use Rattle.dsd_record.specs.SetTexts.{IsSet}
 use Rattle.dsd_record.specs.declared.set_view.SetView.{SetView}
 use Rattle.dxs_envelope.specs.FirstFault.{told_of}
 use Rattle.dxs_envelope.specs.Views.{SetAt}
 use Rattle.dxs_envelope.specs.declared.fault.EnvelopeFault.{EnvelopeFault}
-use Rattle.dex_cli.specs.Summaries.{SumsUp}
+use Rattle.dex_cli.specs.Summaries.{IsNoSet, SumsUp}
 use Rattle.dex_cli.specs.declared.summary.SetSummary.{SetSummary}
 use Rattle.dex_cli.specs.declared.text_summary.TextEnding.{TextEnding}
 use Rattle.dex_cli.specs.declared.text_summary.TextEnding.TheVariants as endings
 use Rattle.dex_cli.specs.Words.{Spells}
 use Rattle.dex_cli.specs.Formatting.{Served, Formats}
-use Rattle.dex_cli.specs.Answers.{IsInput, ChecksSet, ChecksText, ChecksLine, Read, IsChecked, Does, MayAnswer, has_refused, status_at, status_of}
-use Rattle.dex_cli.specs.declared.answer.Answer.{Answer}
-use Rattle.dex_cli.specs.declared.answer.Answer.TheVariants as answers
+use Rattle.dex_cli.specs.Verdicts.{IsInput, ChecksSet, ChecksText, ChecksLine, Read, IsChecked, Does, MayCome, status_at, status_of, status_of_line}
+use Rattle.dex_cli.specs.declared.verdict.Verdict.{Verdict}
+use Rattle.dex_cli.specs.declared.verdict.Verdict.TheVariants as verdicts
+use Rattle.dex_cli.specs.declared.refusal.Reason.{Reason}
+use Rattle.dex_cli.specs.declared.refusal.Reason.TheVariants as reasons
 use Rattle.dex_cli.specs.declared.job.TheConstants.{INPUT_BYTES}
 use Rattle.dex_cli.specs.declared.words.Job.{Job}
 use Rattle.dex_cli.specs.declared.words.Job.TheVariants as jobs
@@ -58,18 +60,19 @@ IsBad input = (set : SetView) → IsSet set input → ⊥
 abbrev IsGood : List ℕ → Type 0
 IsGood input = (set : SetView) × IsSet set input
 
-set_verdict : (input : List ℕ) (a : Answer) → ChecksSet input a
+-- a set that is refused is none
+none_spelled : (input : List ℕ) (place : ℕ) (reason : Reason) → IsNoSet input place reason → IsBad input
+none_spelled input place (reasons.Set reason) no_set = no_set.none
+none_spelled input place (reasons.Envelope reason) no_set = absurd no_set
+none_spelled input place reasons.Damaged no_set = absurd no_set
+none_spelled input place reasons.Bad no_set = absurd no_set
+
+set_verdict : (input : List ℕ) (a : Verdict) → ChecksSet input a
     → (((INPUT_BYTES < length input) ⊎ IsBad input) × (status_of a ≡ INPUT_REFUSED)) ⊎ ((length input ≤ INPUT_BYTES) × IsGood input × (status_of a ≡ DONE))
-set_verdict input answers.Words c = absurd c
-set_verdict input answers.SourceFault c = absurd c
-set_verdict input answers.StationFault c = absurd c
-set_verdict input (answers.Refused place reason) (inl long) = inl (inl long.long, refl)
-set_verdict input (answers.Refused place reason) (inr refused) = inl (inr refused.1.none, refl)
-set_verdict input (answers.Set summary) (short, is) = inr (short, (is.set, is.spelled), refl)
-set_verdict input (answers.Text text) c = absurd c
-set_verdict input (answers.Line captured) c = absurd c
-set_verdict input answers.Formatted c = absurd c
-set_verdict input (answers.NotEmpty size) c = absurd c
+set_verdict input (verdicts.Refused refusal) (inl long) = inl (inl long.long, refl)
+set_verdict input (verdicts.Refused refusal) (inr refused) = inl (inr (none_spelled input refusal.place refusal.reason refused.1), refl)
+set_verdict input (verdicts.Set summary) (short, is) = inr (short, (is.set, is.spelled), refl)
+set_verdict input _ c = absurd c
 
 -- each set is right, and the transmission has no fault
 abbrev AllGood : List SetAt → Option EnvelopeFault → Type 0
@@ -80,14 +83,11 @@ AllGood (set ∷ sets) fault = IsGood set.bytes × AllGood sets fault
 text_ends : (sets : List SetAt) (fault : Option EnvelopeFault) (summaries : List SetSummary) (ending : TextEnding) → SumsUp sets fault summaries ending
     → (AllGood sets fault × (status_at ending ≡ DONE)) ⊎ ((AllGood sets fault → ⊥) × (status_at ending ≡ INPUT_REFUSED))
 text_ends [] None [] endings.Whole up = inl (tt, refl)
-text_ends [] None [] (endings.Envelope told) up = absurd up
-text_ends [] None [] (endings.Set place reason) up = absurd up
+text_ends [] None [] (endings.Refused refusal) up = absurd up
 text_ends [] (Some fault) [] endings.Whole up = absurd up
-text_ends [] (Some fault) [] (endings.Envelope told) up = inr (λ good. good, refl)
-text_ends [] (Some fault) [] (endings.Set place reason) up = absurd up
+text_ends [] (Some fault) [] (endings.Refused refusal) up = inr (λ good. good, refl)
 text_ends (set ∷ sets) fault [] endings.Whole up = absurd up
-text_ends (set ∷ sets) fault [] (endings.Envelope told) up = absurd up
-text_ends (set ∷ sets) fault [] (endings.Set place reason) up = inr (λ good. up.no_set.none good.0.0 good.0.1, refl)
+text_ends (set ∷ sets) fault [] (endings.Refused refusal) up = inr (λ good. none_spelled set.bytes up.inside refusal.reason up.no_set good.0.0 good.0.1, refl)
 text_ends [] fault (summary ∷ summaries) ending up = absurd up
 text_ends (set ∷ sets) fault (summary ∷ summaries) ending (is, up) = elim (text_ends sets fault summaries ending up) [
   | inl whole ↦ inl (((is.set, is.spelled), whole.0), whole.1)
@@ -97,65 +97,53 @@ text_ends (set ∷ sets) fault (summary ∷ summaries) ending (is, up) = elim (t
 abbrev IsGoodText : List ℕ → Type 0
 IsGoodText input = AllGood (told_of input).sets (told_of input).fault
 
-text_verdict : (input : List ℕ) (a : Answer) → ChecksText input a
+text_verdict : (input : List ℕ) (a : Verdict) → ChecksText input a
     → ((INPUT_BYTES < length input) × (status_of a ≡ INPUT_REFUSED))
     ⊎ ((length input ≤ INPUT_BYTES) × ((IsGoodText input × (status_of a ≡ DONE)) ⊎ ((IsGoodText input → ⊥) × (status_of a ≡ INPUT_REFUSED))))
-text_verdict input answers.Words c = absurd c
-text_verdict input answers.SourceFault c = absurd c
-text_verdict input answers.StationFault c = absurd c
-text_verdict input (answers.Refused place reason) long = inl (long.long, refl)
-text_verdict input (answers.Set summary) c = absurd c
-text_verdict input (answers.Text text) (short, up) = inr (short, text_ends (told_of input).sets (told_of input).fault text.sets.items text.ending up)
-text_verdict input (answers.Line captured) c = absurd c
-text_verdict input answers.Formatted c = absurd c
-text_verdict input (answers.NotEmpty size) c = absurd c
+text_verdict input (verdicts.Refused refusal) long = inl (long.long, refl)
+text_verdict input (verdicts.Text text) (short, up) = inr (short, text_ends (told_of input).sets (told_of input).fault text.sets.items text.ending up)
+text_verdict input _ c = absurd c
 
-line_verdict : (input : List ℕ) (a : Answer) → ChecksLine input a
-    → ((INPUT_BYTES < length input) × (status_of a ≡ INPUT_REFUSED)) ⊎ ((length input ≤ INPUT_BYTES) × (status_of a ≡ (if has_refused input then INPUT_REFUSED else DONE)))
-line_verdict input answers.Words c = absurd c
-line_verdict input answers.SourceFault c = absurd c
-line_verdict input answers.StationFault c = absurd c
-line_verdict input (answers.Refused place reason) long = inl (long.long, refl)
-line_verdict input (answers.Set summary) c = absurd c
-line_verdict input (answers.Text text) c = absurd c
-line_verdict input (answers.Line captured) (short, same) = inr (short, ap (λ (bytes : List ℕ). if has_refused bytes then INPUT_REFUSED else DONE) same)
-line_verdict input answers.Formatted c = absurd c
-line_verdict input (answers.NotEmpty size) c = absurd c
+line_verdict : (input : List ℕ) (a : Verdict) → ChecksLine input a
+    → ((INPUT_BYTES < length input) × (status_of a ≡ INPUT_REFUSED)) ⊎ ((length input ≤ INPUT_BYTES) × (status_of a ≡ status_of_line input))
+line_verdict input (verdicts.Refused refusal) long = inl (long.long, refl)
+line_verdict input (verdicts.Line captured) (short, same) = inr (short, ap status_of_line same)
+line_verdict input _ c = absurd c
 
 -- an input that is too long is refused
-set_long : (input : List ℕ) (a : Answer) → INPUT_BYTES < length input → ChecksSet input a → status_of a ≡ INPUT_REFUSED
+set_long : (input : List ℕ) (a : Verdict) → INPUT_BYTES < length input → ChecksSet input a → status_of a ≡ INPUT_REFUSED
 set_long input a long c = elim (set_verdict input a c) [ inl bad ↦ bad.1 | inr good ↦ absurd (omega (arith, long, good.0)) ]
 
-text_long : (input : List ℕ) (a : Answer) → INPUT_BYTES < length input → ChecksText input a → status_of a ≡ INPUT_REFUSED
+text_long : (input : List ℕ) (a : Verdict) → INPUT_BYTES < length input → ChecksText input a → status_of a ≡ INPUT_REFUSED
 text_long input a long c = elim (text_verdict input a c) [ inl bad ↦ bad.1 | inr good ↦ absurd (omega (arith, long, good.0)) ]
 
-line_long : (input : List ℕ) (a : Answer) → INPUT_BYTES < length input → ChecksLine input a → status_of a ≡ INPUT_REFUSED
+line_long : (input : List ℕ) (a : Verdict) → INPUT_BYTES < length input → ChecksLine input a → status_of a ≡ INPUT_REFUSED
 line_long input a long c = elim (line_verdict input a c) [ inl bad ↦ bad.1 | inr good ↦ absurd (omega (arith, long, good.0)) ]
 
 bad_apart : (input : List ℕ) → (INPUT_BYTES < length input) ⊎ IsBad input → length input ≤ INPUT_BYTES → IsGood input → ⊥
 bad_apart input (inl long) short good = absurd (omega (arith, long, short))
 bad_apart input (inr bad) short good = bad good.0 good.1
 
-set_one : (input : List ℕ) (a b : Answer) → ChecksSet input a → ChecksSet input b → status_of a ≡ status_of b
+set_one : (input : List ℕ) (a b : Verdict) → ChecksSet input a → ChecksSet input b → status_of a ≡ status_of b
 set_one input a b c d = elim (set_verdict input a c) [
   | inl bad ↦ elim (set_verdict input b d) [ inl bad' ↦ bad.1 ∙ sym bad'.1 | inr good' ↦ absurd (bad_apart input bad.0 good'.0 good'.1) ]
   | inr good ↦ elim (set_verdict input b d) [ inl bad' ↦ absurd (bad_apart input bad'.0 good.0 good.1) | inr good' ↦ good.2 ∙ sym good'.2 ]
 ]
 
-short_text : (input : List ℕ) (a b : Answer) → (IsGoodText input × (status_of a ≡ DONE)) ⊎ ((IsGoodText input → ⊥) × (status_of a ≡ INPUT_REFUSED))
+short_text : (input : List ℕ) (a b : Verdict) → (IsGoodText input × (status_of a ≡ DONE)) ⊎ ((IsGoodText input → ⊥) × (status_of a ≡ INPUT_REFUSED))
     → (IsGoodText input × (status_of b ≡ DONE)) ⊎ ((IsGoodText input → ⊥) × (status_of b ≡ INPUT_REFUSED)) → status_of a ≡ status_of b
 short_text input a b (inl good) (inl good') = good.1 ∙ sym good'.1
 short_text input a b (inl good) (inr bad) = absurd (bad.0 good.0)
 short_text input a b (inr bad) (inl good) = absurd (bad.0 good.0)
 short_text input a b (inr bad) (inr bad') = bad.1 ∙ sym bad'.1
 
-text_one : (input : List ℕ) (a b : Answer) → ChecksText input a → ChecksText input b → status_of a ≡ status_of b
+text_one : (input : List ℕ) (a b : Verdict) → ChecksText input a → ChecksText input b → status_of a ≡ status_of b
 text_one input a b c d = elim (text_verdict input a c) [
   | inl long ↦ long.1 ∙ sym (text_long input b long.0 d)
   | inr short ↦ elim (text_verdict input b d) [ inl long' ↦ absurd (omega (arith, short.0, long'.0)) | inr short' ↦ short_text input a b short.1 short'.1 ]
 ]
 
-line_one : (input : List ℕ) (a b : Answer) → ChecksLine input a → ChecksLine input b → status_of a ≡ status_of b
+line_one : (input : List ℕ) (a b : Verdict) → ChecksLine input a → ChecksLine input b → status_of a ≡ status_of b
 line_one input a b c d = elim (line_verdict input a c) [
   | inl long ↦ long.1 ∙ sym (line_long input b long.0 d)
   | inr short ↦ elim (line_verdict input b d) [ inl long' ↦ absurd (omega (arith, short.0, long'.0)) | inr short' ↦ short.1 ∙ sym short'.1 ]
@@ -163,7 +151,7 @@ line_one input a b c d = elim (line_verdict input a c) [
 
 -- ---- one status of words
 
-module _ (left after after' : List ℕ) (faults now now' : ℕ) (one other : Served) (a b : Answer) where
+module _ (left after after' : List ℕ) (faults now now' : ℕ) (one other : Served) (a b : Verdict) where
   abbrev read : Read
   read = record { left = Some left; after = Some after; faults = faults; faults_after = now }
 
@@ -188,50 +176,35 @@ module _ (left after after' : List ℕ) (faults now now' : ℕ) (one other : Ser
     | inr long ↦ line_long x.input a long.0 x.checks ∙ sym (line_long y.input b long.1 y.checks)
   ]
 
-  check_job : (kind : CheckKind) → Does (Unit {0}) (jobs.Check kind) read one a → Does (Unit {0}) (jobs.Check kind) read' other b → a ≢ answers.SourceFault → b ≢ answers.SourceFault → status_of a ≡ status_of b
-  check_job kind (inl unread) q f g = absurd (f unread.answer_is)
-  check_job kind (inr x) (inl unread) f g = absurd (g unread.answer_is)
+  check_job : (kind : CheckKind) → Does (Unit {0}) (jobs.Check kind) read one a → Does (Unit {0}) (jobs.Check kind) read' other b → a ≢ verdicts.SourceFault → b ≢ verdicts.SourceFault → status_of a ≡ status_of b
+  check_job kind (inl unread) q f g = absurd (f unread.verdict_is)
+  check_job kind (inr x) (inl unread) f g = absurd (g unread.verdict_is)
   check_job checks.Set (inr x) (inr y) f g = set_job x y
   check_job checks.Text (inr x) (inr y) f g = text_job x y
   check_job checks.Line (inr x) (inr y) f g = line_job x y
 
 -- an empty journal is made, and any other is not
-format_job : (new new' : NewJournal) (one other : Served) (a b : Answer) → one.before.journal ≡ other.before.journal → Formats (Unit {0}) new one a → Formats (Unit {0}) new' other b
-    → a ≢ answers.StationFault → b ≢ answers.StationFault → status_of a ≡ status_of b
-format_job new new' one other answers.Words b same p q f g = absurd p
-format_job new new' one other answers.SourceFault b same p q f g = absurd p
-format_job new new' one other answers.StationFault b same p q f g = absurd (f refl)
-format_job new new' one other (answers.Refused place reason) b same p q f g = absurd p
-format_job new new' one other (answers.Set summary) b same p q f g = absurd p
-format_job new new' one other (answers.Text text) b same p q f g = absurd p
-format_job new new' one other (answers.Line captured) b same p q f g = absurd p
-format_job new new' one other answers.Formatted answers.Words same p q f g = absurd q
-format_job new new' one other answers.Formatted answers.SourceFault same p q f g = absurd q
-format_job new new' one other answers.Formatted answers.StationFault same p q f g = absurd (g refl)
-format_job new new' one other answers.Formatted (answers.Refused place reason) same p q f g = absurd q
-format_job new new' one other answers.Formatted (answers.Set summary) same p q f g = absurd q
-format_job new new' one other answers.Formatted (answers.Text text) same p q f g = absurd q
-format_job new new' one other answers.Formatted (answers.Line captured) same p q f g = absurd q
-format_job new new' one other answers.Formatted answers.Formatted same p q f g = refl
-format_job new new' one other answers.Formatted (answers.NotEmpty size) same p q f g =
+format_job : (new new' : NewJournal) (one other : Served) (a b : Verdict) → one.before.journal ≡ other.before.journal → Formats (Unit {0}) new one a → Formats (Unit {0}) new' other b
+    → a ≢ verdicts.StationFault → b ≢ verdicts.StationFault → status_of a ≡ status_of b
+format_job new new' one other verdicts.Formatted verdicts.Formatted same p q f g = refl
+format_job new new' one other verdicts.Formatted (verdicts.NotEmpty size) same p q f g =
     let made = p tt in
     let full = q tt in
     absurd (omega (arith, ap length (sym same ∙ made.empty), full.size_is, full.some))
-format_job new new' one other (answers.NotEmpty size) answers.Words same p q f g = absurd q
-format_job new new' one other (answers.NotEmpty size) answers.SourceFault same p q f g = absurd q
-format_job new new' one other (answers.NotEmpty size) answers.StationFault same p q f g = absurd (g refl)
-format_job new new' one other (answers.NotEmpty size) (answers.Refused place reason) same p q f g = absurd q
-format_job new new' one other (answers.NotEmpty size) (answers.Set summary) same p q f g = absurd q
-format_job new new' one other (answers.NotEmpty size) (answers.Text text) same p q f g = absurd q
-format_job new new' one other (answers.NotEmpty size) (answers.Line captured) same p q f g = absurd q
-format_job new new' one other (answers.NotEmpty size) answers.Formatted same p q f g =
+format_job new new' one other (verdicts.NotEmpty size) verdicts.Formatted same p q f g =
     let made = q tt in
     let full = p tt in
     absurd (omega (arith, ap length (same ∙ made.empty), full.size_is, full.some))
-format_job new new' one other (answers.NotEmpty size) (answers.NotEmpty size') same p q f g = refl
+format_job new new' one other (verdicts.NotEmpty size) (verdicts.NotEmpty size') same p q f g = refl
+format_job new new' one other verdicts.StationFault b same p q f g = absurd (f refl)
+format_job new new' one other verdicts.Formatted verdicts.StationFault same p q f g = absurd (g refl)
+format_job new new' one other (verdicts.NotEmpty size) verdicts.StationFault same p q f g = absurd (g refl)
+format_job new new' one other verdicts.Formatted _ same p q f g = absurd q
+format_job new new' one other (verdicts.NotEmpty size) _ same p q f g = absurd q
+format_job new new' one other _ b same p q f g = absurd p
 
-module _ (words : List (List ℕ)) (left after after' : List ℕ) (faults now now' : ℕ) (one other : Served) (a b : Answer) (f : a ≢ answers.SourceFault) (f' : a ≢ answers.StationFault)
-    (g : b ≢ answers.SourceFault) (g' : b ≢ answers.StationFault) (same : one.before.journal ≡ other.before.journal) where
+module _ (words : List (List ℕ)) (left after after' : List ℕ) (faults now now' : ℕ) (one other : Served) (a b : Verdict) (f : a ≢ verdicts.SourceFault) (f' : a ≢ verdicts.StationFault)
+    (g : b ≢ verdicts.SourceFault) (g' : b ≢ verdicts.StationFault) (same : one.before.journal ≡ other.before.journal) where
   by_jobs : (job job' : Job) → Spells job words → Spells job' words → Does (Unit {0}) job (read left after after' faults now now' one other a b) one a
       → Does (Unit {0}) job' (read' left after after' faults now now' one other a b) other b → status_of a ≡ status_of b
   by_jobs (jobs.Format new) (jobs.Format new') s t p q = format_job new new' one other a b same p.1 q.1 f' g'
@@ -242,16 +215,16 @@ module _ (words : List (List ℕ)) (left after after' : List ℕ) (faults now no
       check_job left after after' faults now now' one other a b kind p
       (subst (λ (k : CheckKind). Does (Unit {0}) (jobs.Check k) (read' left after after' faults now now' one other a b) other b) same_kind q) f g
 
-  by_words : MayAnswer (Unit {0}) words (read left after after' faults now now' one other a b) one a → MayAnswer (Unit {0}) words (read' left after after' faults now now' one other a b) other b
+  by_words : MayCome (Unit {0}) words (read left after after' faults now now' one other a b) one a → MayCome (Unit {0}) words (read' left after after' faults now now' one other a b) other b
       → status_of a ≡ status_of b
-  by_words (inl p) (inl q) = ap status_of (p.answer_is ∙ sym q.answer_is)
+  by_words (inl p) (inl q) = ap status_of (p.verdict_is ∙ sym q.verdict_is)
   by_words (inl p) (inr q) = absurd (p.none q.job q.spells)
   by_words (inr p) (inl q) = absurd (q.none p.job p.spells)
   by_words (inr p) (inr q) = by_jobs p.job q.job p.spells q.spells p.does q.does
 
-pub one_status : (words : List (List ℕ)) (left after after' : List ℕ) (faults now now' : ℕ) (one other : Served) (a b : Answer) → a ≢ answers.SourceFault → a ≢ answers.StationFault
-    → b ≢ answers.SourceFault → b ≢ answers.StationFault → one.before.journal ≡ other.before.journal
-    → MayAnswer (Unit {0}) words (record { left = Some left; after = Some after; faults = faults; faults_after = now }) one a
-    → MayAnswer (Unit {0}) words (record { left = Some left; after = Some after'; faults = faults; faults_after = now' }) other b
+pub one_status : (words : List (List ℕ)) (left after after' : List ℕ) (faults now now' : ℕ) (one other : Served) (a b : Verdict) → a ≢ verdicts.SourceFault → a ≢ verdicts.StationFault
+    → b ≢ verdicts.SourceFault → b ≢ verdicts.StationFault → one.before.journal ≡ other.before.journal
+    → MayCome (Unit {0}) words (record { left = Some left; after = Some after; faults = faults; faults_after = now }) one a
+    → MayCome (Unit {0}) words (record { left = Some left; after = Some after'; faults = faults; faults_after = now' }) other b
     → status_of a ≡ status_of b
 one_status words left after after' faults now now' one other a b f f' g g' same p q = by_words words left after after' faults now now' one other a b f f' g g' same p q

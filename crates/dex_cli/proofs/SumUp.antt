@@ -1,5 +1,5 @@
 -- A text is summed up set by set.
-use Rattle.std.proofs.Common.{List, [], ◌∷◌, ◌++◌, refl, sym, subst, append_assoc, append-nil}
+use Rattle.std.proofs.Common.{List, [], ◌∷◌, ◌++◌, inl, inr, sym, subst, append_assoc, append-nil}
 use Rattle.dxs_envelope.specs.FirstFault.{told_behind}
 use Rattle.dxs_envelope.specs.Views.{Told}
 use Rattle.dex_cli.specs.Summaries.{Ends, SumsUp}
@@ -21,8 +21,8 @@ one_more all old new done summary summed (set, is, says) later ending up =
 
 ends_so : (old new : Told) (ending : TextEnding) → IsStep old (steps.End ending) new → Ends old.sets old.fault ending
 ends_so old new endings.Whole is = subst (λ (t : Told). Ends t.sets t.fault endings.Whole) (sym is) tt
-ends_so old new (endings.Envelope fault) is = subst (λ (t : Told). Ends t.sets t.fault (endings.Envelope fault)) (sym is) refl
-ends_so old new (endings.Set place reason) (set, is, none) = subst (λ (t : Told). Ends t.sets t.fault (endings.Set place reason)) (sym is) none
+ends_so old new (endings.Refused refusal) (inl out) = subst (λ (t : Told). Ends t.sets t.fault (endings.Refused refusal)) (sym out.old_is) out.refusal_is
+ends_so old new (endings.Refused refusal) (inr (set, is, none)) = subst (λ (t : Told). Ends t.sets t.fault (endings.Refused refusal)) (sym is) none
 
 pub ended : (all old new : Told) (done : List SetSummary) (ending : TextEnding) → Summed all done old → IsStep old (steps.End ending) new → SumsUp all.sets all.fault done ending
 ended all old new done ending summed is = subst (λ (l : List SetSummary). SumsUp all.sets all.fault l ending) (append-nil done) (summed [] ending (ends_so old new ending is))

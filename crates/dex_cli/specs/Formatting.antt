@@ -7,9 +7,9 @@ use Rattle.dsd_station.specs.Told.{Told, IsSynced}
 use Rattle.dsd_journal.specs.Devices.{Unfailed, Untouched}
 use Rattle.dsd_journal.specs.Headers.{formatted}
 use Rattle.dsd_journal.specs.JournalImage.{Holds}
-use Rattle.dex_cli.specs.declared.answer.Answer.{Answer}
-use Rattle.dex_cli.specs.declared.answer.Answer.TheVariants as answers
 use Rattle.dex_cli.specs.declared.format_words.NewJournal.{NewJournal}
+use Rattle.dex_cli.specs.declared.verdict.Verdict.{Verdict}
+use Rattle.dex_cli.specs.declared.verdict.Verdict.TheVariants as verdicts
 
 -- Nothing was heard or spoken, the plan is as it was, and the record is the old one with calls behind it.
 pub record IsSilent (before after : Told) : Type 0 where
@@ -47,11 +47,20 @@ pub record IsNotEmpty (new : NewJournal) (size : ℕ) (before after : Told) : Ty
   pub untouched : Untouched before after
   pub unfailed : Unfailed before after
 
--- A call failed. The journal is as it was, or it was empty and has at most 28 bytes, whichever they are.
+-- The station is attached. The journal is as it was, or it was empty and has at most 28 bytes, whichever they are.
+pub record IsTorn (new : NewJournal) (before after : Told) : Type 0 where
+  pub attached : IsAttached new.journal after
+  pub journal : Untouched before after ⊎ ((before.journal ≡ []) × Torn 0 28 [] after.journal)
+
+-- The station is attached to what it was, and nothing was touched.
+pub record IsUnattached (before after : Told) : Type 0 where
+  pub attached : StaysAttached before after
+  pub untouched : Untouched before after
+
+-- A call failed: the journal is attached and perhaps torn, or it is neither attached nor touched.
 pub record IsFailed (new : NewJournal) (before after : Told) : Type 0 where
   pub silent : IsSilent before after
-  pub attached : IsAttached new.journal after ⊎ StaysAttached before after
-  pub journal : Untouched before after ⊎ ((before.journal ≡ []) × Torn 0 28 [] after.journal)
+  pub left : IsTorn new before after ⊎ IsUnattached before after
 
 -- what a station told before and after, and its count of faults before and after
 pub record Served : Type 0 where
@@ -60,14 +69,13 @@ pub record Served : Type 0 where
   pub faults : ℕ
   pub faults_after : ℕ
 
--- What `format` answers. Of content it says something where the station tells its content.
-abbrev pub Formats : Type 0 → NewJournal → Served → Answer → Type 0
-Formats tells new served answers.Words = ⊥
-Formats tells new served answers.SourceFault = ⊥
-Formats tells new served answers.StationFault = Rose served.faults served.faults_after × (tells → IsFailed new served.before served.after)
-Formats tells new served (answers.Refused place reason) = ⊥
-Formats tells new served (answers.Set summary) = ⊥
-Formats tells new served (answers.Text text) = ⊥
-Formats tells new served (answers.Line captured) = ⊥
-Formats tells new served answers.Formatted = tells → IsMade new served.before served.after
-Formats tells new served (answers.NotEmpty size) = tells → IsNotEmpty new size served.before served.after
+-- the same of a station as it was and is
+abbrev pub served_of : {S : Type 0} → (S → Told) → (S → ℕ) → S → S → Served
+served_of told faults old new = record { before = told old; after = told new; faults = faults old; faults_after = faults new }
+
+-- What `format` comes to. Of content it says something where the station tells its content.
+abbrev pub Formats : Type 0 → NewJournal → Served → Verdict → Type 0
+Formats tells new served verdicts.StationFault = Rose served.faults served.faults_after × (tells → IsFailed new served.before served.after)
+Formats tells new served verdicts.Formatted = tells → IsMade new served.before served.after
+Formats tells new served (verdicts.NotEmpty size) = tells → IsNotEmpty new size served.before served.after
+Formats tells new served _ = ⊥

@@ -5,4 +5,4 @@ pub mod Summaries
 pub mod TextSteps
 pub mod Texts
 pub mod Formatting
-pub mod Answers
+pub mod Verdicts

@@ -8,6 +8,9 @@ use Rattle.dsd_record.specs.declared.set_view.SetView.TheVariants as sets
 use Rattle.dxs_envelope.specs.Views.{SetAt, Told}
 use Rattle.dxs_envelope.specs.declared.fault.EnvelopeFault.{EnvelopeFault}
 use Rattle.segments.specs.declared.set_fault.SetReason.{SetReason}
+use Rattle.dex_cli.specs.declared.refusal.Reason.{Reason}
+use Rattle.dex_cli.specs.declared.refusal.Reason.TheVariants as reasons
+use Rattle.dex_cli.specs.declared.refusal.Refusal.{Refusal}
 use Rattle.dex_cli.specs.declared.summary.SetForm.TheVariants as forms
 use Rattle.dex_cli.specs.declared.summary.SetSummary.{SetSummary}
 use Rattle.dex_cli.specs.declared.text_summary.TextEnding.{TextEnding}
@@ -42,30 +45,36 @@ pub record IsSummary (text : List ℕ) (summary : SetSummary) : Type 0 where
   pub summary_is : summary ≡ summary_of set
 
 -- no set is spelled by the text, and this is its first refusal
-pub record IsNoSet (text : List ℕ) (place : ℕ) (reason : SetReason) : Type 0 where
+pub record IsNoSetFor (text : List ℕ) (place : ℕ) (reason : SetReason) : Type 0 where
   pub first : set_refusal text ≡ Some (record { place = place; reason = reason })
   pub none : (set : SetView) → IsSet set text → ⊥
   pub within : place ≤ length text
 
+-- the same of the reason that is printed
+abbrev pub IsNoSet : List ℕ → ℕ → Reason → Type 0
+IsNoSet text place (reasons.Set reason) = IsNoSetFor text place reason
+IsNoSet text place _ = ⊥
+
 -- ---- a transmission
 
 -- the set is none, and is refused at this place of its transmission
-pub record IsNoSetAt (set : SetAt) (place : ℕ) (reason : SetReason) : Type 0 where
+pub record IsNoSetAt (set : SetAt) (refusal : Refusal) : Type 0 where
   pub inside : ℕ
-  pub place_is : place ≡ set.start + inside
-  pub no_set : IsNoSet set.bytes inside reason
+  pub place_is : refusal.place ≡ set.start + inside
+  pub no_set : IsNoSet set.bytes inside refusal.reason
+
+-- the fault of an envelope as it is printed
+abbrev pub refusal_of : EnvelopeFault → Refusal
+refusal_of fault = record { place = fault.place; reason = reasons.Envelope fault.reason }
 
 -- behind the sets that are summed up: the transmission is whole, it is none, or the next set is none
 abbrev pub Ends : List SetAt → Option EnvelopeFault → TextEnding → Type 0
 Ends [] None endings.Whole = Unit {0}
-Ends [] None (endings.Envelope fault) = ⊥
-Ends [] None (endings.Set place reason) = ⊥
+Ends [] None (endings.Refused refusal) = ⊥
 Ends [] (Some fault) endings.Whole = ⊥
-Ends [] (Some fault) (endings.Envelope told) = told ≡ fault
-Ends [] (Some fault) (endings.Set place reason) = ⊥
+Ends [] (Some fault) (endings.Refused refusal) = refusal ≡ refusal_of fault
 Ends (set ∷ sets) fault endings.Whole = ⊥
-Ends (set ∷ sets) fault (endings.Envelope told) = ⊥
-Ends (set ∷ sets) fault (endings.Set place reason) = IsNoSetAt set place reason
+Ends (set ∷ sets) fault (endings.Refused refusal) = IsNoSetAt set refusal
 
 -- each of these is summed up, in their order
 abbrev pub SumsUp : List SetAt → Option EnvelopeFault → List SetSummary → TextEnding → Type 0

@@ -11,16 +11,19 @@ use Rattle.dex_line.specs.FrameShapes.{FrameShape, Enq, Ack0, Ack1, Nak, Eot, He
 use Rattle.segments.specs.declared.segment_fault.SegmentFault.{SegmentFault}
 use Rattle.segments.specs.declared.segment_fault.SegmentFault.TheVariants as segment_faults
 use Rattle.segments.specs.declared.set_fault.SetReason.{SetReason}
-use Rattle.segments.specs.declared.set_fault.SetReason.TheVariants as reasons
-use Rattle.dex_cli.specs.declared.answer.Answer.{Answer}
-use Rattle.dex_cli.specs.declared.answer.Answer.TheVariants as answers
+use Rattle.segments.specs.declared.set_fault.SetReason.TheVariants as set_reasons
 use Rattle.dxs_envelope.specs.declared.fault.EnvelopeReason.{EnvelopeReason}
 use Rattle.dxs_envelope.specs.declared.fault.EnvelopeReason.TheVariants as envelope_reasons
+use Rattle.dex_cli.specs.declared.refusal.Reason.{Reason}
+use Rattle.dex_cli.specs.declared.refusal.Reason.TheVariants as reasons
+use Rattle.dex_cli.specs.declared.refusal.Refusal.{Refusal}
 use Rattle.dex_cli.specs.declared.summary.SetForm.{SetForm}
 use Rattle.dex_cli.specs.declared.summary.SetForm.TheVariants as forms
 use Rattle.dex_cli.specs.declared.summary.SetSummary.{SetSummary}
 use Rattle.dex_cli.specs.declared.text_summary.TextEnding.{TextEnding}
 use Rattle.dex_cli.specs.declared.text_summary.TextEnding.TheVariants as endings
+use Rattle.dex_cli.specs.declared.verdict.Verdict.{Verdict}
+use Rattle.dex_cli.specs.declared.verdict.Verdict.TheVariants as verdicts
 
 -- a line ends with LF
 abbrev pub line : List ℕ → List ℕ
@@ -81,19 +84,16 @@ segment_fault_text (segment_faults.BadId place) = codes "SEGMENT BADID"
 segment_fault_text (segment_faults.TooLong place) = codes "SEGMENT TOOLONG"
 segment_fault_text (segment_faults.TooManyElements place) = codes "SEGMENT ELEMENTS"
 
-abbrev pub reason_text : SetReason → List ℕ
-reason_text (reasons.Segment fault) = segment_fault_text fault
-reason_text reasons.Order = codes "ORDER"
-reason_text reasons.Limit = codes "LIMIT"
-reason_text (reasons.Value element fault) = both (codes "VALUE") (both (decimal element) (fault_text fault))
-reason_text (reasons.Twice dsd) = both (codes "TWICE") (decimal dsd)
-reason_text (reasons.Totals said computed) = both (codes "TOTALS") (both (decimal said) (signed_decimal computed))
-reason_text (reasons.Check said computed) = both (codes "CHECK") (both (check_text said) (check_text computed))
-reason_text (reasons.Count said found) = both (codes "COUNT") (both (decimal said) (decimal found))
-reason_text reasons.Control = codes "CONTROL"
-
-abbrev pub refused_line : ℕ → List ℕ → List ℕ
-refused_line place reason = line (both (codes "REFUSED") (both (decimal place) reason))
+abbrev pub set_reason_text : SetReason → List ℕ
+set_reason_text (set_reasons.Segment fault) = segment_fault_text fault
+set_reason_text set_reasons.Order = codes "ORDER"
+set_reason_text set_reasons.Limit = codes "LIMIT"
+set_reason_text (set_reasons.Value element fault) = both (codes "VALUE") (both (decimal element) (fault_text fault))
+set_reason_text (set_reasons.Twice dsd) = both (codes "TWICE") (decimal dsd)
+set_reason_text (set_reasons.Totals said computed) = both (codes "TOTALS") (both (decimal said) (signed_decimal computed))
+set_reason_text (set_reasons.Check said computed) = both (codes "CHECK") (both (check_text said) (check_text computed))
+set_reason_text (set_reasons.Count said found) = both (codes "COUNT") (both (decimal said) (decimal found))
+set_reason_text set_reasons.Control = codes "CONTROL"
 
 abbrev pub envelope_reason_text : EnvelopeReason → List ℕ
 envelope_reason_text envelope_reasons.NoHeader = codes "NOHEADER"
@@ -104,6 +104,15 @@ envelope_reason_text envelope_reasons.Function = codes "FUNCTION"
 envelope_reason_text (envelope_reasons.Segment fault) = segment_fault_text fault
 envelope_reason_text envelope_reasons.Tail = codes "TAIL"
 
+abbrev pub reason_text : Reason → List ℕ
+reason_text (reasons.Set reason) = set_reason_text reason
+reason_text (reasons.Envelope reason) = envelope_reason_text reason
+reason_text reasons.Damaged = codes "DAMAGED"
+reason_text reasons.Bad = codes "BAD"
+
+abbrev pub refused_line : Refusal → List ℕ
+refused_line refusal = line (both (codes "REFUSED") (both (decimal refusal.place) (reason_text refusal.reason)))
+
 -- ---- a transmission
 
 abbrev pub sets_text : List SetSummary → List ℕ
@@ -113,8 +122,7 @@ sets_text (set ∷ sets) = set_text set ++ sets_text sets
 -- how many sets there are, where the transmission is whole; else where and why it is refused
 abbrev pub ending_text : ℕ → TextEnding → List ℕ
 ending_text count endings.Whole = line (both (codes "SETS") (decimal count)) ++ line (codes "OK")
-ending_text count (endings.Envelope fault) = refused_line fault.place (envelope_reason_text fault.reason)
-ending_text count (endings.Set place reason) = refused_line place (reason_text reason)
+ending_text count (endings.Refused refusal) = refused_line refusal
 
 -- ---- frames
 
@@ -122,39 +130,33 @@ ending_text count (endings.Set place reason) = refused_line place (reason_text r
 abbrev pub shown : ℕ → ℕ
 shown byte = if byte == 13 || (byte == 10) then 46 else byte
 
--- a frame that is neither damaged nor bad
-abbrev pub frame_text : FrameShape → List ℕ
-frame_text Enq = codes "ENQ"
-frame_text Ack0 = codes "ACK0"
-frame_text Ack1 = codes "ACK1"
-frame_text Nak = codes "NAK"
-frame_text Eot = codes "EOT"
-frame_text (Header text) = both (codes "HEADER") (map shown text)
-frame_text (Block false text) = both (codes "BLOCK") (decimal (length text))
-frame_text (Block true text) = both (codes "LAST") (decimal (length text))
-frame_text Damaged = codes "DAMAGED"
-frame_text Bad = codes "BAD"
-
--- one that is damaged or bad is refused with the place of its first byte
+-- one that is damaged or bad is refused at its first byte
 abbrev pub frame_line : ℕ → FrameShape → List ℕ
-frame_line place Damaged = line (both (codes "REFUSED") (both (decimal place) (codes "DAMAGED")))
-frame_line place Bad = line (both (codes "REFUSED") (both (decimal place) (codes "BAD")))
-frame_line place shape = line (frame_text shape)
+frame_line place Enq = line (codes "ENQ")
+frame_line place Ack0 = line (codes "ACK0")
+frame_line place Ack1 = line (codes "ACK1")
+frame_line place Nak = line (codes "NAK")
+frame_line place Eot = line (codes "EOT")
+frame_line place (Header text) = line (both (codes "HEADER") (map shown text))
+frame_line place (Block false text) = line (both (codes "BLOCK") (decimal (length text)))
+frame_line place (Block true text) = line (both (codes "LAST") (decimal (length text)))
+frame_line place Damaged = refused_line (record { place = place; reason = reasons.Damaged })
+frame_line place Bad = refused_line (record { place = place; reason = reasons.Bad })
 
 -- a line for each frame, and `OK` where none is refused
 abbrev pub frames_text : List (ℕ × FrameShape) → List ℕ
 frames_text [] = line (codes "OK")
 frames_text (frame ∷ more) = frame_line frame.0 frame.1 ++ (if is_refused frame.1 then [] else frames_text more)
 
--- ---- all that is printed for an answer
+-- ---- all that is printed of a run
 
-unfoldable pub printed : Answer → List ℕ
-printed answers.Words = line (codes "WORDS")
-printed answers.SourceFault = line (codes "FAULT SOURCE")
-printed answers.StationFault = line (codes "FAULT STATION")
-printed (answers.Refused place reason) = refused_line place (reason_text reason)
-printed (answers.Set set) = set_text set ++ line (codes "OK")
-printed (answers.Text text) = sets_text text.sets.items ++ ending_text (length text.sets.items) text.ending
-printed (answers.Line captured) = frames_text (frames_in captured.items)
-printed answers.Formatted = line (codes "FORMATTED")
-printed (answers.NotEmpty size) = line (both (codes "NOT EMPTY") (decimal size))
+unfoldable pub printed : Verdict → List ℕ
+printed verdicts.Words = line (codes "WORDS")
+printed verdicts.SourceFault = line (codes "FAULT SOURCE")
+printed verdicts.StationFault = line (codes "FAULT STATION")
+printed (verdicts.Refused refusal) = refused_line refusal
+printed (verdicts.Set set) = set_text set ++ line (codes "OK")
+printed (verdicts.Text text) = sets_text text.sets.items ++ ending_text (length text.sets.items) text.ending
+printed (verdicts.Line captured) = frames_text (frames_in captured.items)
+printed verdicts.Formatted = line (codes "FORMATTED")
+printed (verdicts.NotEmpty size) = line (both (codes "NOT EMPTY") (decimal size))

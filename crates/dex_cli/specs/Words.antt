@@ -1,6 +1,7 @@
 -- The words that spell a job.
 use Rattle.std.specs.Prelude.{ℕ, ◌≡◌, List, [], ◌∷◌, codes}
 use Rattle.dex_cli.specs.FormatWords.{SpellsFormat}
+use Rattle.dex_cli.specs.declared.format_words.NewJournal.{NewJournal}
 use Rattle.dex_cli.specs.declared.words.Job.{Job}
 use Rattle.dex_cli.specs.declared.words.Job.TheVariants as jobs
 use Rattle.dex_cli.specs.declared.words.CheckKind.{CheckKind}
@@ -15,3 +16,15 @@ check_words checks.Line = codes "check" ∷ codes "line" ∷ []
 abbrev pub Spells : Job → List (List ℕ) → Type 0
 Spells (jobs.Check kind) words = words ≡ check_words kind
 Spells (jobs.Format new) words = SpellsFormat new words
+
+-- the words are those of no job
+abbrev pub IsOfNoJob : List (List ℕ) → Type 0
+IsOfNoJob words = (job : Job) → Spells job words → ⊥
+
+-- the words are those of a check
+abbrev pub AsksCheck : List (List ℕ) → Type 0
+AsksCheck words = (kind : CheckKind) × Spells (jobs.Check kind) words
+
+-- the words are those of a `format`
+abbrev pub AsksFormat : List (List ℕ) → Type 0
+AsksFormat words = (new : NewJournal) × Spells (jobs.Format new) words

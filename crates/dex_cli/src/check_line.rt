@@ -1,13 +1,13 @@
 //! `check line`: the frames of captured bytes.
 
-ghost use Rattle.std.specs.Prelude.{◌≡◌, ◌++◌, map, length, codes, not, if◌then◌else◌, IfOk, OnOk};
-ghost use Rattle.std.specs.Fmt.{decimal};
+ghost use Rattle.std.specs.Prelude.{◌≡◌, ◌++◌, map, codes, not, IfOk, OnOk};
 ghost use Rattle.dex_line.specs.Captured.{frames_in, is_refused};
 ghost use Rattle.dex_line.specs.FrameShapes.{captured_seen};
-ghost use Rattle.dex_cli.specs.Answers.{has_refused};
-ghost use Rattle.dex_cli.specs.Texts.{both, line, shown, frame_text, frame_line, frames_text};
+ghost use Rattle.dex_cli.specs.Verdicts.{has_refused, status_of_line};
+ghost use Rattle.dex_cli.specs.Texts.{both, line, shown, frame_line, frames_text, refused_line};
 
-use crate::report::{put, put_count, put_number};
+use crate::lines::{put, put_count};
+use crate::refusal::{Reason, Refusal, put_refusal};
 use crate::status::{DONE, INPUT_REFUSED};
 use dex_line::{Captured, Frames};
 use std::alloc::{AllocError, Global};
@@ -15,7 +15,7 @@ use std::alloc::{AllocError, Global};
 /// Prints the frames of captured bytes, and answers the status.
 pub fn put_captured(alloc: Global, out: &mut Vec<u8>, captured: &[u8]) -> Result<u8, AllocError>
     ensures text { OnOk result (out.new.items ≡ out.old.items ++ frames_text (frames_in captured.now)) }
-    ensures status { IfOk result (λ status. status ≡ (if has_refused captured.now then INPUT_REFUSED else DONE)) }
+    ensures status { IfOk result (λ status. status ≡ status_of_line captured.now) }
 {
     if put_frames(alloc, out, captured)? {
         Ok(DONE)
@@ -63,8 +63,8 @@ fn put_frame(
         Captured::Header(text) => put_header(out, text),
         Captured::Block { last: false, text } => put_count(alloc, out, "BLOCK", text.len() as u64),
         Captured::Block { last: true, text } => put_count(alloc, out, "LAST", text.len() as u64),
-        Captured::Damaged => put_refused(alloc, out, place, "DAMAGED"),
-        Captured::Bad => put_refused(alloc, out, place, "BAD"),
+        Captured::Damaged => put_refused(alloc, out, place, Reason::Damaged),
+        Captured::Bad => put_refused(alloc, out, place, Reason::Bad),
     }
 }
 
@@ -72,15 +72,11 @@ fn put_refused(
     alloc: Global,
     out: &mut Vec<u8>,
     place: usize,
-    reason: &str,
+    reason: Reason,
 ) -> Result<(), AllocError>
-    ensures { OnOk result (out.new.items ≡ out.old.items ++ line (both (codes "REFUSED") (both (decimal place) reason.now))) }
+    ensures { OnOk result (out.new.items ≡ out.old.items ++ refused_line (record { place = place; reason = reason })) }
 {
-    put(out, "REFUSED ")?;
-    put_number(alloc, out, place as u64)?;
-    put(out, " ")?;
-    put(out, reason)?;
-    put(out, "\n")
+    put_refusal(alloc, out, &Refusal { place, reason })
 }
 
 fn put_header(out: &mut Vec<u8>, text: &[u8]) -> Result<(), AllocError>

@@ -1,27 +1,28 @@
-//! `check text`: the answer to a transmission.
+//! `check text`: the verdict on a transmission.
 
 ghost use Rattle.std.specs.Prelude.{◌≤◌, IfOk, length};
 ghost use Rattle.dxs_envelope.specs.FirstFault.{told_of};
-ghost use Rattle.dex_cli.specs.Answers.{ChecksText};
+ghost use Rattle.dex_cli.specs.Verdicts.{ChecksText};
 ghost use Rattle.dex_cli.specs.Summaries.{IsSummedUp};
 ghost use Rattle.dex_cli.specs.TextSteps.{IsSaid, IsStep};
 ghost use Rattle.dex_cli.specs.declared.job.TheConstants.{INPUT_BYTES};
 
-use crate::answer::Answer;
+use crate::refusal::{Reason, Refusal};
 use crate::summary::{SetSummary, summary_of};
 use crate::text_summary::{TextEnding, TextSummary};
+use crate::verdict::Verdict;
 use dsd_record::set_of;
 use dxs_envelope::{SetSlice, Sets};
 use segments::SetFault;
 use std::alloc::{AllocError, Global};
 
-/// The answer to an input.
-pub fn check_text(alloc: Global, input: &[u8]) -> Result<Answer, AllocError>
+/// The verdict on an input.
+pub fn check_text(alloc: Global, input: &[u8]) -> Result<Verdict, AllocError>
     requires { length input.now ≤ INPUT_BYTES }
     ensures { IfOk result (ChecksText input.now) }
 {
     let text = sum_up(alloc, input)?;
-    Ok(Answer::Text(text))
+    Ok(Verdict::Text(text))
 }
 
 /// What is printed of a text.
@@ -57,7 +58,10 @@ fn next_step(alloc: Global, sets: &mut Sets<'_>) -> Result<Step, AllocError>
     match sets.next() {
         Ok(Some(set)) => step_of(alloc, &set),
         Ok(None) => Ok(Step::End(TextEnding::Whole)),
-        Err(fault) => Ok(Step::End(TextEnding::Envelope(fault))),
+        Err(fault) => Ok(Step::End(TextEnding::Refused(Refusal {
+            place: fault.place,
+            reason: Reason::Envelope(fault.reason),
+        }))),
     }
 }
 
@@ -67,10 +71,10 @@ fn step_of(alloc: Global, set: &SetSlice<'_>) -> Result<Step, AllocError>
 {
     match set_of(alloc, set.bytes()) {
         Ok(view) => Ok(Step::Set(summary_of(view))),
-        Err(SetFault::Refused { place, reason }) => Ok(Step::End(TextEnding::Set {
+        Err(SetFault::Refused { place, reason }) => Ok(Step::End(TextEnding::Refused(Refusal {
             place: set.place_in_text(place),
-            reason,
-        })),
+            reason: Reason::Set(reason),
+        }))),
         Err(SetFault::Memory) => Err(AllocError),
     }
 }

@@ -24,6 +24,7 @@ pub struct NewJournal {
 pub fn read_format(alloc: Global, words: &[String]) -> Result<NewJournal, WordsFault>
     ensures found { IfOk result (λ new. SpellsFormat new (map string_bytes words.now)) }
     ensures refused { IsErrOf result WordsFault.Refused → (new : NewValue) → SpellsFormat new (map string_bytes words.now) → ⊥ }
+    ensures memory { IsErrOf result WordsFault.Memory → (new : NewValue) × SpellsFormat new (map string_bytes words.now) }
 {
     match words {
         [job, role, own, peer, journal] if job.as_str() == "format" => read_new(
@@ -46,6 +47,7 @@ fn read_new(
 ) -> Result<NewJournal, WordsFault>
     ensures found { IfOk result (λ new. SpellsNew new role.now own.now peer.now journal.now) }
     ensures refused { IsErrOf result WordsFault.Refused → (new : NewValue) → SpellsNew new role.now own.now peer.now journal.now → ⊥ }
+    ensures memory { IsErrOf result WordsFault.Memory → (new : NewValue) × SpellsNew new role.now own.now peer.now journal.now }
 {
     let Some(header) = read_header(role, own, peer) else {
         return Err(WordsFault::Refused);

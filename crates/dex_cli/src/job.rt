@@ -1,20 +1,23 @@
 //! The top call.
 
-ghost use Rattle.std.specs.Prelude.{◌≡◌, ◌≢◌, ◌⊎◌, ◌≤◌, ℕ, IfOk, OnErr, map, string_bytes, length};
+ghost use Rattle.std.specs.Prelude.{◌≡◌, ◌≢◌, ◌⊎◌, ◌+◌, ◌≤◌, ℕ, IfOk, IsOk, OnErr, map, string_bytes};
 ghost use Rattle.std.specs.Io.KnownBytes.{Appends, Keeps};
-ghost use Rattle.dsd_station.specs.Causes.{Rose, WritesFront};
+ghost use Rattle.dsd_station.specs.Causes.{Rose, TakesUpTo, WritesFront};
 ghost use Rattle.dex_cli.specs.Texts.{printed};
-ghost use Rattle.dex_cli.specs.Answers.{Read, Checks, IsUnread, IsChecked, AsksCheck, AsksFormat, MayAnswer, status_of};
-ghost use Rattle.dex_cli.specs.Formatting.{Served};
-ghost use Rattle.dex_cli.specs.declared.answer.Answer.{Answer as AnswerValue};
+ghost use Rattle.dex_cli.specs.Verdicts.{read_of, Checks, IsUnread, IsChecked, IsComposed, MayCome, status_of};
+ghost use Rattle.dex_cli.specs.Words.{AsksCheck, AsksFormat, IsOfNoJob};
+ghost use Rattle.dex_cli.specs.Formatting.{served_of};
+ghost use Rattle.dex_cli.specs.declared.verdict.Verdict.{Verdict as VerdictValue};
+ghost use Rattle.dex_cli.specs.declared.verdict.Verdict.TheVariants as verdicts;
 
-use crate::answer::Answer;
 use crate::check_set::check_set;
 use crate::check_text::check_text;
 use crate::fault::WordsFault;
 use crate::formatting::make_journal;
-use crate::report::text_of;
+use crate::refusal::{Reason, Refusal};
+use crate::report::report_of;
 use crate::status::{NO_MEMORY, SINK_FAILED};
+use crate::verdict::Verdict;
 use crate::words::{CheckKind, Job, read_words};
 use dsd_station::{ReadFault, Sink, Source, Station, read_up_to, write_all};
 use segments::SetReason;
@@ -32,25 +35,23 @@ pub fn dex<S: Source, K: Sink, T: Station>(
     sink: &mut K,
     station: &mut T,
 ) -> u8
-    // Every status but two is that of an answer which may come, and all of its text is written.
-    ensures told { result ≢ SINK_FAILED → result ≢ NO_MEMORY → (answer : AnswerValue)
-        × MayAnswer T.tells (map string_bytes words.now)
-        (record { left = S.left source.old; after = S.left source.new; faults = S.faults source.old; faults_after = S.faults source.new })
-        (record { before = T.told station.old; after = T.told station.new; faults = T.faults station.old; faults_after = T.faults station.new }) answer
-        × (result ≡ status_of answer) × Appends (K.written sink.old) (K.written sink.new) (printed answer) }
+    // Every status but two is that of a verdict which may come, and all of its text is written.
+    ensures told { result ≢ SINK_FAILED → result ≢ NO_MEMORY → (verdict : VerdictValue)
+        × MayCome T.tells (map string_bytes words.now) (read_of S.left S.faults source.old source.new) (served_of T.told T.faults station.old station.new) verdict
+        × (result ≡ status_of verdict) × Appends (K.written sink.old) (K.written sink.new) (printed verdict) }
 
     // The sink failed, and a first part of such a text is written.
-    ensures sink { result ≡ SINK_FAILED → Rose (K.faults sink.old) (K.faults sink.new) × ((answer : AnswerValue)
-        × MayAnswer T.tells (map string_bytes words.now)
-        (record { left = S.left source.old; after = S.left source.new; faults = S.faults source.old; faults_after = S.faults source.new })
-        (record { before = T.told station.old; after = T.told station.new; faults = T.faults station.old; faults_after = T.faults station.new }) answer
-        × WritesFront (K.written sink.old) (K.written sink.new) (printed answer)) }
+    ensures sink { result ≡ SINK_FAILED → Rose (K.faults sink.old) (K.faults sink.new) × ((verdict : VerdictValue)
+        × MayCome T.tells (map string_bytes words.now) (read_of S.left S.faults source.old source.new) (served_of T.told T.faults station.old station.new) verdict
+        × WritesFront (K.written sink.old) (K.written sink.new) (printed verdict)) }
 
-    // Memory was wanting before anything was written, and before the station was used or behind such an answer.
-    ensures memory { result ≡ NO_MEMORY → Keeps (K.written sink.old) (K.written sink.new) × ((station.new ≡ station.old) ⊎ ((answer : AnswerValue)
-        × MayAnswer T.tells (map string_bytes words.now)
-        (record { left = S.left source.old; after = S.left source.new; faults = S.faults source.old; faults_after = S.faults source.new })
-        (record { before = T.told station.old; after = T.told station.new; faults = T.faults station.old; faults_after = T.faults station.new }) answer)) }
+    // Memory was wanting before anything was written. Of the source no more was taken than the limit and one byte, and the
+    // station was not used, or its journal is not empty.
+    ensures memory { result ≡ NO_MEMORY → Keeps (K.written sink.old) (K.written sink.new) × TakesUpTo (INPUT_BYTES + 1) (S.left source.old) (S.left source.new)
+        × ((station.new ≡ station.old) ⊎ ((size : ℕ) × MayCome T.tells (map string_bytes words.now) (read_of S.left S.faults source.old source.new) (served_of T.told T.faults station.old station.new) (verdicts.NotEmpty size))) }
+
+    // Words of no job take no memory.
+    ensures words { IsOfNoJob (map string_bytes words.now) → result ≢ NO_MEMORY }
 
     // A check alone reads the source, and a `format` alone uses the station.
     ensures unread { (AsksCheck (map string_bytes words.now) → ⊥) → source.new ≡ source.old }
@@ -60,23 +61,23 @@ pub fn dex<S: Source, K: Sink, T: Station>(
     ensures sink_count { K.faults sink.old ≤ K.faults sink.new }
     ensures station_count { T.faults station.old ≤ T.faults station.new }
 {
-    match answer(alloc, words, source, station) {
-        Ok(answer) => print(alloc, &answer, sink),
+    match verdict_of(alloc, words, source, station) {
+        Ok(verdict) => print(alloc, &verdict, sink),
         Err(_) => NO_MEMORY,
     }
 }
 
 /// Does the job, up to what is printed of it.
-fn answer<S: Source, T: Station>(
+fn verdict_of<S: Source, T: Station>(
     alloc: Global,
     words: &[String],
     source: &mut S,
     station: &mut T,
-) -> Result<Answer, AllocError>
-    ensures may { IfOk result (MayAnswer T.tells (map string_bytes words.now)
-        (record { left = S.left source.old; after = S.left source.new; faults = S.faults source.old; faults_after = S.faults source.new })
-        (record { before = T.told station.old; after = T.told station.new; faults = T.faults station.old; faults_after = T.faults station.new })) }
+) -> Result<Verdict, AllocError>
+    ensures may { IfOk result (MayCome T.tells (map string_bytes words.now) (read_of S.left S.faults source.old source.new) (served_of T.told T.faults station.old station.new)) }
     ensures memory { OnErr result (station.new ≡ station.old) }
+    ensures taken { OnErr result (TakesUpTo (INPUT_BYTES + 1) (S.left source.old) (S.left source.new)) }
+    ensures words { IsOfNoJob (map string_bytes words.now) → IsOk result }
     ensures unread { (AsksCheck (map string_bytes words.now) → ⊥) → source.new ≡ source.old }
     ensures idle { (AsksFormat (map string_bytes words.now) → ⊥) → station.new ≡ station.old }
     ensures later { S.faults source.old ≤ S.faults source.new }
@@ -85,53 +86,54 @@ fn answer<S: Source, T: Station>(
     match read_words(alloc, words) {
         Ok(Job::Check(kind)) => check(alloc, kind, source),
         Ok(Job::Format(new)) => Ok(make_journal(&new, station)),
-        Err(WordsFault::Refused) => Ok(Answer::Words),
+        Err(WordsFault::Refused) => Ok(Verdict::Words),
         Err(WordsFault::Memory) => Err(AllocError),
     }
 }
 
-/// The answer of a check to the input that the source gives.
-fn check<S: Source>(alloc: Global, kind: CheckKind, source: &mut S) -> Result<Answer, AllocError>
-    ensures told { IfOk result (λ answer. let read : Read = (record { left = S.left source.old; after = S.left source.new; faults = S.faults source.old; faults_after = S.faults source.new }) in IsUnread read answer ⊎ IsChecked kind read answer) }
+/// The verdict of a check on the input that the source gives.
+fn check<S: Source>(alloc: Global, kind: CheckKind, source: &mut S) -> Result<Verdict, AllocError>
+    ensures told { IfOk result (λ verdict. let read = read_of S.left S.faults source.old source.new in IsUnread read verdict ⊎ IsChecked kind read verdict) }
+    ensures taken { OnErr result (TakesUpTo (INPUT_BYTES + 1) (S.left source.old) (S.left source.new)) }
     ensures later { S.faults source.old ≤ S.faults source.new }
 {
     match read_up_to(alloc, source, INPUT_BYTES + 1) {
         Ok(input) => judge(alloc, kind, input),
-        Err(ReadFault::Failed) => Ok(Answer::SourceFault),
+        Err(ReadFault::Failed) => Ok(Verdict::SourceFault),
         Err(ReadFault::Memory) => Err(AllocError),
     }
 }
 
-/// The answer of a check to its input, which is refused where it is longer than any may be.
-fn judge(alloc: Global, kind: CheckKind, input: Vec<u8>) -> Result<Answer, AllocError>
+/// The verdict of a check on its input, which is refused where it is longer than any may be.
+fn judge(alloc: Global, kind: CheckKind, input: Vec<u8>) -> Result<Verdict, AllocError>
     ensures { IfOk result (Checks kind input.items) }
 {
     if input.len() > INPUT_BYTES {
-        return Ok(Answer::Refused {
+        return Ok(Verdict::Refused(Refusal {
             place: INPUT_BYTES,
-            reason: SetReason::Limit,
-        });
+            reason: Reason::Set(SetReason::Limit),
+        }));
     }
     match kind {
         CheckKind::Set => check_set(alloc, &input),
         CheckKind::Text => check_text(alloc, &input),
-        CheckKind::Line => Ok(Answer::Line(input)),
+        CheckKind::Line => Ok(Verdict::Line(input)),
     }
 }
 
-/// Writes the text of an answer, and answers the status.
-fn print<K: Sink>(alloc: Global, answer: &Answer, sink: &mut K) -> u8
-    ensures told { result ≢ SINK_FAILED → result ≢ NO_MEMORY → (result ≡ status_of answer.now) × Appends (K.written sink.old) (K.written sink.new) (printed answer.now) }
-    ensures sink { result ≡ SINK_FAILED → Rose (K.faults sink.old) (K.faults sink.new) × WritesFront (K.written sink.old) (K.written sink.new) (printed answer.now) }
-    ensures memory { result ≡ NO_MEMORY → Keeps (K.written sink.old) (K.written sink.new) }
+/// Writes the text of a verdict, and answers the status.
+fn print<K: Sink>(alloc: Global, verdict: &Verdict, sink: &mut K) -> u8
+    ensures told { result ≢ SINK_FAILED → result ≢ NO_MEMORY → (result ≡ status_of verdict.now) × Appends (K.written sink.old) (K.written sink.new) (printed verdict.now) }
+    ensures sink { result ≡ SINK_FAILED → Rose (K.faults sink.old) (K.faults sink.new) × WritesFront (K.written sink.old) (K.written sink.new) (printed verdict.now) }
+    ensures memory { result ≡ NO_MEMORY → Keeps (K.written sink.old) (K.written sink.new) × IsComposed verdict.now }
     ensures count { K.faults sink.old ≤ K.faults sink.new }
 {
-    let (text, status) = match text_of(alloc, answer) {
+    let report = match report_of(alloc, verdict) {
         Ok(report) => report,
         Err(_) => return NO_MEMORY,
     };
-    match write_all(sink, &text) {
-        Ok(()) => status,
+    match write_all(sink, report.text.as_slice()) {
+        Ok(()) => report.status,
         Err(_) => SINK_FAILED,
     }
 }

@@ -1,7 +1,6 @@
 //! The jobs of the program `dex`: from words and an input to a printed text and a status.
 #![tactic(auto)]
 
-mod answer;
 mod check_line;
 mod check_set;
 mod check_text;
@@ -10,22 +9,29 @@ mod format_words;
 mod formatting;
 mod job;
 pub mod laws;
+mod lines;
 mod name;
 mod reasons;
+mod refusal;
 mod report;
 mod status;
 mod summary;
 mod text_summary;
+mod verdict;
 mod words;
 
-pub use answer::Answer;
 pub use fault::WordsFault;
 pub use format_words::NewJournal;
 pub use job::{INPUT_BYTES, dex};
 pub use name::Name;
-pub use status::NO_MEMORY;
+pub use refusal::{Reason, Refusal};
+pub use status::{
+    DONE, INPUT_REFUSED, JOURNAL_REFUSED, NO_MEMORY, SINK_FAILED, SOURCE_FAILED, STATION_FAILED,
+    WORDS_REFUSED,
+};
 pub use summary::{SetForm, SetSummary};
 pub use text_summary::{TextEnding, TextSummary};
+pub use verdict::Verdict;
 pub use words::{CheckKind, Job, read_words};
 
 #[cfg(test)]

@@ -38,6 +38,7 @@ pub fn read_name(alloc: Global, word: &str) -> Result<Name, WordsFault>
     ensures found { IfOk result (λ name. name ≡ word.now) }
     ensures name { IfOk result IsName }
     ensures refused { IsErrOf result WordsFault.Refused → IsName word.now → ⊥ }
+    ensures memory { IsErrOf result WordsFault.Memory → IsName word.now }
 {
     if !is_name(word) {
         return Err(WordsFault::Refused);

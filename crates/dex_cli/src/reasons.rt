@@ -1,10 +1,10 @@
-//! The printed texts of reasons.
+//! The printed texts of the reasons against a set.
 
 ghost use Rattle.std.specs.Prelude.{◌≡◌, ◌++◌, codes, OnOk};
 ghost use Rattle.std.specs.Fmt.{decimal};
-ghost use Rattle.dex_cli.specs.Texts.{both, fault_text, segment_fault_text, reason_text};
+ghost use Rattle.dex_cli.specs.Texts.{both, fault_text, segment_fault_text, set_reason_text};
 
-use crate::report::{put, put_bytes, put_number, put_signed};
+use crate::lines::{put, put_bytes, put_number, put_signed};
 use dsd_values::{ValueFault, write_check};
 use segments::{SegmentFault, SetReason};
 use std::alloc::{AllocError, Global};
@@ -54,8 +54,12 @@ pub fn put_counts(alloc: Global, out: &mut Vec<u8>, said: u64, found: u64) -> Re
 }
 
 /// Prints a reason.
-pub fn put_reason(alloc: Global, out: &mut Vec<u8>, reason: &SetReason) -> Result<(), AllocError>
-    ensures { OnOk result (out.new.items ≡ out.old.items ++ reason_text reason.now) }
+pub fn put_set_reason(
+    alloc: Global,
+    out: &mut Vec<u8>,
+    reason: &SetReason,
+) -> Result<(), AllocError>
+    ensures { OnOk result (out.new.items ≡ out.old.items ++ set_reason_text reason.now) }
 {
     match reason {
         SetReason::Segment(fault) => put(out, segment_fault(*fault)),

@@ -1,126 +1,113 @@
-//! Growing a printed text.
+//! The reports of verdicts: all that is printed of a run.
 
-ghost use Rattle.std.specs.Prelude.{◌≡◌, ◌++◌, codes, OnOk, IfOk};
-ghost use Rattle.std.specs.Fmt.{decimal, signed_decimal};
-ghost use Rattle.dex_cli.specs.Answers.{status_of};
-ghost use Rattle.dex_cli.specs.Texts.{line, both, reason_text, refused_line, printed};
+ghost use Rattle.std.specs.Prelude.{◌≡◌, ◌++◌, codes, OnErr, IfOk, length};
+ghost use Rattle.std.specs.Cow.{cow_slice_items};
+ghost use Rattle.std.specs.Fmt.{decimal};
+ghost use Rattle.dex_line.specs.Captured.{frames_in};
+ghost use Rattle.dex_cli.specs.Texts.{line, both, ending_text, frames_text, printed, refused_line, set_text, sets_text};
+ghost use Rattle.dex_cli.specs.Verdicts.{IsComposed, status_at, status_of, status_of_line};
 
-use crate::answer::Answer;
 use crate::check_line::put_captured;
-use crate::reasons::put_reason;
+use crate::lines::{put, put_count};
+use crate::refusal::{Refusal, put_refusal};
 use crate::status::{
     DONE, INPUT_REFUSED, JOURNAL_REFUSED, SOURCE_FAILED, STATION_FAILED, WORDS_REFUSED,
 };
-use crate::summary::put_set;
-use crate::text_summary::put_text;
-use segments::SetReason;
+use crate::summary::{SetSummary, put_set};
+use crate::text_summary::{TextSummary, put_text};
+use crate::verdict::Verdict;
 use std::alloc::{AllocError, Global};
+use std::borrow::CowSlice;
 
-pub fn put(out: &mut Vec<u8>, text: &str) -> Result<(), AllocError>
-    ensures { OnOk result (out.new.items ≡ out.old.items ++ text.now) }
-{
-    out.extend_from_slice(text.as_bytes())
+/// What is printed, and the status that goes with it.
+#[derive(Drop)]
+pub struct Report {
+    pub text: CowSlice<'static, u8>,
+    pub status: u8,
 }
 
-pub fn put_bytes(out: &mut Vec<u8>, bytes: &[u8]) -> Result<(), AllocError>
-    ensures { OnOk result (out.new.items ≡ out.old.items ++ bytes.now) }
-{
-    out.extend_from_slice(bytes)
-}
-
-pub fn put_number(alloc: Global, out: &mut Vec<u8>, number: u64) -> Result<(), AllocError>
-    ensures { OnOk result (out.new.items ≡ out.old.items ++ decimal number) }
-{
-    let text = format!(in alloc; "{number}")?;
-    out.extend_from_slice(text.as_bytes())
-}
-
-/// A number that may be below 0.
-pub fn put_signed(alloc: Global, out: &mut Vec<u8>, number: i128) -> Result<(), AllocError>
-    ensures { OnOk result (out.new.items ≡ out.old.items ++ signed_decimal number) }
-{
-    let text = format!(in alloc; "{number}")?;
-    out.extend_from_slice(text.as_bytes())
-}
-
-/// A line of a name and a text.
-pub fn put_pair(out: &mut Vec<u8>, name: &str, text: &[u8]) -> Result<(), AllocError>
-    ensures { OnOk result (out.new.items ≡ out.old.items ++ line (both name.now text.now)) }
-{
-    put(out, name)?;
-    put(out, " ")?;
-    put_bytes(out, text)?;
-    put(out, "\n")
-}
-
-/// A line of a name and a number.
-pub fn put_count(alloc: Global, out: &mut Vec<u8>, name: &str, count: u64) -> Result<(), AllocError>
-    ensures { OnOk result (out.new.items ≡ out.old.items ++ line (both name.now (decimal count))) }
-{
-    put(out, name)?;
-    put(out, " ")?;
-    put_number(alloc, out, count)?;
-    put(out, "\n")
-}
-
+/// The report of a verdict. A line that is always the same takes no memory.
 #[tactic(auto, unfolding(crate::specs::Texts::printed))]
-fn put_answer(alloc: Global, out: &mut Vec<u8>, answer: &Answer) -> Result<u8, AllocError>
-    ensures text { OnOk result (out.new.items ≡ out.old.items ++ printed answer.now) }
-    ensures status { IfOk result (λ status. status ≡ status_of answer.now) }
+pub fn report_of(alloc: Global, verdict: &Verdict) -> Result<Report, AllocError>
+    ensures text { IfOk result (λ report. cow_slice_items report.text ≡ printed verdict.now) }
+    ensures status { IfOk result (λ report. report.status ≡ status_of verdict.now) }
+    ensures memory { OnErr result (IsComposed verdict.now) }
 {
-    match answer {
-        Answer::Words => put_alone(out, "WORDS", WORDS_REFUSED),
-        Answer::SourceFault => put_alone(out, "FAULT SOURCE", SOURCE_FAILED),
-        Answer::StationFault => put_alone(out, "FAULT STATION", STATION_FAILED),
-        Answer::Refused { place, reason } => {
-            put_refusal(alloc, out, *place, reason)?;
-            Ok(INPUT_REFUSED)
-        }
-        Answer::Set(summary) => {
-            put_set(alloc, out, summary)?;
-            put_alone(out, "OK", DONE)
-        }
-        Answer::Text(text) => put_text(alloc, out, text),
-        Answer::Line(captured) => put_captured(alloc, out, captured),
-        Answer::Formatted => put_alone(out, "FORMATTED", DONE),
-        Answer::NotEmpty(size) => {
-            put_count(alloc, out, "NOT EMPTY", *size)?;
-            Ok(JOURNAL_REFUSED)
-        }
+    match verdict {
+        Verdict::Words => Ok(fixed(b"WORDS\n", WORDS_REFUSED)),
+        Verdict::SourceFault => Ok(fixed(b"FAULT SOURCE\n", SOURCE_FAILED)),
+        Verdict::StationFault => Ok(fixed(b"FAULT STATION\n", STATION_FAILED)),
+        Verdict::Formatted => Ok(fixed(b"FORMATTED\n", DONE)),
+        Verdict::Refused(refusal) => of_refusal(alloc, refusal),
+        Verdict::Set(set) => of_set(alloc, set),
+        Verdict::Text(text) => of_text(alloc, text),
+        Verdict::Line(captured) => of_line(alloc, captured),
+        Verdict::NotEmpty(size) => of_size(alloc, *size),
     }
 }
 
-/// A text that is all that is printed, and the status that goes with it.
-fn put_alone(out: &mut Vec<u8>, text: &str, status: u8) -> Result<u8, AllocError>
-    ensures text { OnOk result (out.new.items ≡ out.old.items ++ line text.now) }
-    ensures status { IfOk result (λ answer. answer ≡ status) }
+fn fixed(text: &'static [u8], status: u8) -> Report
+    ensures text { cow_slice_items result.text ≡ text.now }
+    ensures status { result.status ≡ status }
 {
-    put(out, text)?;
-    put(out, "\n")?;
-    Ok(status)
+    Report {
+        text: CowSlice::Borrowed(text),
+        status,
+    }
 }
 
-pub fn put_refusal(
-    alloc: Global,
-    out: &mut Vec<u8>,
-    place: usize,
-    reason: &SetReason,
-) -> Result<(), AllocError>
-    ensures { OnOk result (out.new.items ≡ out.old.items ++ refused_line place (reason_text reason.now)) }
+fn made(text: Vec<u8>, status: u8) -> Report
+    ensures text { cow_slice_items result.text ≡ text.items }
+    ensures status { result.status ≡ status }
 {
-    put(out, "REFUSED ")?;
-    put_number(alloc, out, place as u64)?;
-    put(out, " ")?;
-    put_reason(alloc, out, reason)?;
-    put(out, "\n")
+    Report {
+        text: CowSlice::Owned(text),
+        status,
+    }
 }
 
-/// All that is printed for an answer, with the status that goes with it.
-pub fn text_of(alloc: Global, answer: &Answer) -> Result<(Vec<u8>, u8), AllocError>
-    ensures text { IfOk result (λ report. report.0.items ≡ printed answer.now) }
-    ensures status { IfOk result (λ report. report.1 ≡ status_of answer.now) }
+fn of_refusal(alloc: Global, refusal: &Refusal) -> Result<Report, AllocError>
+    ensures text { IfOk result (λ report. cow_slice_items report.text ≡ refused_line refusal.now) }
+    ensures status { IfOk result (λ report. report.status ≡ INPUT_REFUSED) }
 {
-    let mut text = Vec::new(alloc);
-    let status = put_answer(alloc, &mut text, answer)?;
-    Ok((text, status))
+    let mut out = Vec::new(alloc);
+    put_refusal(alloc, &mut out, refusal)?;
+    Ok(made(out, INPUT_REFUSED))
+}
+
+fn of_set(alloc: Global, set: &SetSummary) -> Result<Report, AllocError>
+    ensures text { IfOk result (λ report. cow_slice_items report.text ≡ set_text set.now ++ line (codes "OK")) }
+    ensures status { IfOk result (λ report. report.status ≡ DONE) }
+{
+    let mut out = Vec::new(alloc);
+    put_set(alloc, &mut out, set)?;
+    put(&mut out, "OK\n")?;
+    Ok(made(out, DONE))
+}
+
+fn of_text(alloc: Global, text: &TextSummary) -> Result<Report, AllocError>
+    ensures text { IfOk result (λ report. cow_slice_items report.text ≡ sets_text text.now.sets.items ++ ending_text (length text.now.sets.items) text.now.ending) }
+    ensures status { IfOk result (λ report. report.status ≡ status_at text.now.ending) }
+{
+    let mut out = Vec::new(alloc);
+    let status = put_text(alloc, &mut out, text)?;
+    Ok(made(out, status))
+}
+
+fn of_line(alloc: Global, captured: &[u8]) -> Result<Report, AllocError>
+    ensures text { IfOk result (λ report. cow_slice_items report.text ≡ frames_text (frames_in captured.now)) }
+    ensures status { IfOk result (λ report. report.status ≡ status_of_line captured.now) }
+{
+    let mut out = Vec::new(alloc);
+    let status = put_captured(alloc, &mut out, captured)?;
+    Ok(made(out, status))
+}
+
+fn of_size(alloc: Global, size: u64) -> Result<Report, AllocError>
+    ensures text { IfOk result (λ report. cow_slice_items report.text ≡ line (both (codes "NOT EMPTY") (decimal size))) }
+    ensures status { IfOk result (λ report. report.status ≡ JOURNAL_REFUSED) }
+{
+    let mut out = Vec::new(alloc);
+    put_count(alloc, &mut out, "NOT EMPTY", size)?;
+    Ok(made(out, JOURNAL_REFUSED))
 }

@@ -6,7 +6,7 @@ ghost use Rattle.dex_cli.specs.Summaries.{summary_of as told_of};
 ghost use Rattle.dex_cli.specs.Texts.{day_behind, delivery_text, flag_text, form_text, name_text, set_text, totals_text};
 ghost use Rattle.dex_cli.specs.Texts.{line as ended};
 
-use crate::report::{put, put_bytes, put_count, put_pair};
+use crate::lines::{put, put_bytes, put_count, put_pair};
 use adjustment_895::Answer895;
 use base_record_894::Base;
 use dsd_record::SetView;

@@ -1,15 +1,13 @@
 //! What is printed of a text of sets.
 
 ghost use Rattle.std.specs.Prelude.{◌≡◌, ◌++◌, OnOk, IfOk, length};
-ghost use Rattle.dex_cli.specs.Answers.{status_at};
-ghost use Rattle.dex_cli.specs.Texts.{ending_text, envelope_reason_text, refused_line, sets_text};
+ghost use Rattle.dex_cli.specs.Verdicts.{status_at};
+ghost use Rattle.dex_cli.specs.Texts.{ending_text, sets_text};
 
-use crate::reasons::{put_counts, segment_fault};
-use crate::report::{put, put_count, put_number, put_refusal};
+use crate::lines::{put, put_count};
+use crate::refusal::{Refusal, put_refusal};
 use crate::status::{DONE, INPUT_REFUSED};
 use crate::summary::{SetSummary, put_set};
-use dxs_envelope::{EnvelopeFault, EnvelopeReason};
-use segments::SetReason;
 use std::alloc::{AllocError, Global};
 
 /// What is printed of a text of sets.
@@ -25,10 +23,8 @@ pub struct TextSummary {
 pub enum TextEnding {
     /// It is a transmission of these sets alone.
     Whole,
-    /// It is no transmission.
-    Envelope(EnvelopeFault),
-    /// The next set is refused, at this place of the text.
-    Set { place: usize, reason: SetReason },
+    /// It is no transmission, or the next set is none.
+    Refused(Refusal),
 }
 
 /// Prints the sets of a text and how it ends, and answers the status.
@@ -65,45 +61,9 @@ fn put_ending(
             put(out, "OK\n")?;
             Ok(DONE)
         }
-        TextEnding::Envelope(fault) => {
-            put_envelope_fault(alloc, out, *fault)?;
+        TextEnding::Refused(refusal) => {
+            put_refusal(alloc, out, refusal)?;
             Ok(INPUT_REFUSED)
         }
-        TextEnding::Set { place, reason } => {
-            put_refusal(alloc, out, *place, reason)?;
-            Ok(INPUT_REFUSED)
-        }
-    }
-}
-
-fn put_envelope_fault(
-    alloc: Global,
-    out: &mut Vec<u8>,
-    fault: EnvelopeFault,
-) -> Result<(), AllocError>
-    ensures { OnOk result (out.new.items ≡ out.old.items ++ refused_line fault.place (envelope_reason_text fault.reason)) }
-{
-    put(out, "REFUSED ")?;
-    put_number(alloc, out, fault.place as u64)?;
-    put(out, " ")?;
-    put_envelope_reason(alloc, out, fault.reason)?;
-    put(out, "\n")
-}
-
-fn put_envelope_reason(
-    alloc: Global,
-    out: &mut Vec<u8>,
-    reason: EnvelopeReason,
-) -> Result<(), AllocError>
-    ensures { OnOk result (out.new.items ≡ out.old.items ++ envelope_reason_text reason) }
-{
-    match reason {
-        EnvelopeReason::NoHeader => put(out, "NOHEADER"),
-        EnvelopeReason::NoTrailer => put(out, "NOTRAILER"),
-        EnvelopeReason::Count { said, found } => put_counts(alloc, out, said, found),
-        EnvelopeReason::Control => put(out, "CONTROL"),
-        EnvelopeReason::Function => put(out, "FUNCTION"),
-        EnvelopeReason::Segment(fault) => put(out, segment_fault(fault)),
-        EnvelopeReason::Tail => put(out, "TAIL"),
     }
 }

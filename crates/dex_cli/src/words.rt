@@ -1,8 +1,7 @@
 //! The words of the command line.
 
 ghost use Rattle.std.specs.Prelude.{◌≡◌, ◌↔◌, IfOk, IsTrue, IsErrOf, map, string_bytes, [], ◌∷◌};
-ghost use Rattle.dex_cli.specs.Words.{Spells};
-ghost use Rattle.dex_cli.specs.declared.words.Job.{Job as JobValue};
+ghost use Rattle.dex_cli.specs.Words.{AsksFormat, IsOfNoJob, Spells};
 
 use crate::fault::WordsFault;
 use crate::format_words::{NewJournal, read_format};
@@ -28,10 +27,11 @@ pub enum Job {
     Format(NewJournal),
 }
 
-/// The job that the words, those after the program's name, spell.
+/// The job that the words, those after the program's name, spell. Only a journal's name takes memory.
 pub fn read_words(alloc: Global, words: &[String]) -> Result<Job, WordsFault>
     ensures found { IfOk result (λ job. Spells job (map string_bytes words.now)) }
-    ensures refused { IsErrOf result WordsFault.Refused → (job : JobValue) → Spells job (map string_bytes words.now) → ⊥ }
+    ensures refused { IsErrOf result WordsFault.Refused → IsOfNoJob (map string_bytes words.now) }
+    ensures memory { IsErrOf result WordsFault.Memory → AsksFormat (map string_bytes words.now) }
 {
     if are(words, "check", "set") {
         return Ok(Job::Check(CheckKind::Set));

@@ -8,6 +8,14 @@ pub catalogue : crc_of (codes "123456789") ≡ 0xBB3D
 unfolding crc_step crc_bits crc_bit
 catalogue = refl
 
+pub check_of_zero : crc_of (0 ∷ []) ≡ 0
+unfolding crc_step crc_bits crc_bit
+check_of_zero = refl
+
+pub check_of_letter : crc_of (0x41 ∷ []) ≡ 0x30C0
+unfolding crc_step crc_bits crc_bit
+check_of_letter = refl
+
 pub check_of_last : crc_of (0x41 ∷ 0x03 ∷ []) ≡ 0x5170
 unfolding crc_step crc_bits crc_bit
 check_of_last = refl

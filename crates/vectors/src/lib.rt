@@ -1,16 +1,9 @@
-//! Worked vectors of the crates below: values computed from the definitions, as laws, and tables, each of which is one
-//! test.
+//! What the crates below must come to: worked values, computed from the definitions, and the number of each limit and
+//! status, as laws; and what no law and no run of the program shows, as tests.
 #![tactic(auto)]
 
-#[cfg(test)]
-mod checks;
-#[cfg(test)]
-mod frames;
 pub mod laws;
-#[cfg(test)]
-mod sets;
-#[cfg(test)]
-mod transmissions;
+pub mod limits;
 #[cfg(test)]
 mod versions;
 #[cfg(test)]

@@ -4,10 +4,6 @@
 pub const DELIVERY: &str =
     "ST*894*0001\r\nG82*D*100001*****20240229\r\nLS*0100\r\nG83*1*12*EA*012345678905****1.25\r\nG83*2*3*EA*012345678912****.3333\r\nLE*0100\r\nG84*15*1600\r\nG86*JONES\r\nG85*C60A\r\nSE*10*0001\r\n";
 
-/// A delivery without lines.
-pub const EMPTY: &str =
-    "ST*894*0001\r\nG82*D*100001*****20240229\r\nG84*0*0\r\nG86*JONES\r\nG85*A4A6\r\nSE*6*0001\r\n";
-
 /// The store takes the delivery as it came.
 pub const ACCEPTED: &str =
     "ST*895*0001\r\nG87*R*D*100001*C60A*0\r\nG84*15*1600\r\nG86*SMITH\r\nG85*4706\r\nSE*6*0001\r\n";

@@ -1,7 +1,7 @@
 use Rattle.std.proofs.Common.{◌≡◌, ◌++◌, length}
 use Rattle.std.specs.List.{list_any}
 use Rattle.dex_line.specs.Captured.{frames_in, is_refused}
-use Rattle.dex_cli.specs.Answers.{has_refused}
+use Rattle.dex_cli.specs.Verdicts.{has_refused}
 use Rattle.dex_cli.specs.Texts.{frames_text}
 use Rattle.dex_cli.proofs.check_line.put_frames.Given as goal
 

@@ -1,20 +1,20 @@
 //! What a run comes to.
 
+use crate::refusal::Refusal;
 use crate::summary::SetSummary;
 use crate::text_summary::TextSummary;
-use segments::SetReason;
 
 /// What a run comes to, before it is printed; want of memory aside.
 #[derive(Debug, Drop)]
-pub enum Answer {
+pub enum Verdict {
     /// The words are those of no job.
     Words,
     /// The source failed.
     SourceFault,
     /// A call of the station failed.
     StationFault,
-    /// The input is refused at this place.
-    Refused { place: usize, reason: SetReason },
+    /// The input is refused.
+    Refused(Refusal),
     /// The input is a set, of which this is printed.
     Set(SetSummary),
     /// The input is a text of sets, of which this is printed.

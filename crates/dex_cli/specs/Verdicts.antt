@@ -1,0 +1,133 @@
+-- What a run may come to, by its words and what it read, and the statuses.
+use Rattle.std.specs.Prelude.{◌≡◌, ◌⊎◌, ℕ, Bool, if◌then◌else◌, ◌+◌, ◌<◌, ◌≤◌, List, length, Option}
+use Rattle.std.specs.Io.KnownBytes.{Consumes, IsAtEnd}
+use Rattle.std.specs.List.{list_any}
+use Rattle.dsd_station.specs.Causes.{Rose, TakesUpTo}
+use Rattle.dex_line.specs.Captured.{frames_in, is_refused}
+use Rattle.segments.specs.declared.set_fault.SetReason.TheVariants as set_reasons
+use Rattle.dxs_envelope.specs.FirstFault.{told_of}
+use Rattle.dex_cli.specs.Summaries.{IsNoSet, IsSummary, IsSummedUp}
+use Rattle.dex_cli.specs.Words.{Spells, IsOfNoJob}
+use Rattle.dex_cli.specs.Formatting.{Served, Formats}
+use Rattle.dex_cli.specs.declared.job.TheConstants.{INPUT_BYTES}
+use Rattle.dex_cli.specs.declared.refusal.Refusal.{Refusal}
+use Rattle.dex_cli.specs.declared.refusal.Reason.TheVariants as reasons
+use Rattle.dex_cli.specs.declared.text_summary.TextEnding.{TextEnding}
+use Rattle.dex_cli.specs.declared.text_summary.TextEnding.TheVariants as endings
+use Rattle.dex_cli.specs.declared.status.TheConstants.{DONE, WORDS_REFUSED, INPUT_REFUSED, SOURCE_FAILED, STATION_FAILED, JOURNAL_REFUSED}
+use Rattle.dex_cli.specs.declared.words.Job.{Job}
+use Rattle.dex_cli.specs.declared.words.Job.TheVariants as jobs
+use Rattle.dex_cli.specs.declared.words.CheckKind.{CheckKind}
+use Rattle.dex_cli.specs.declared.words.CheckKind.TheVariants as checks
+use Rattle.dex_cli.specs.declared.verdict.Verdict.{Verdict}
+use Rattle.dex_cli.specs.declared.verdict.Verdict.TheVariants as verdicts
+
+-- the source gave this input: all that it had, or its front up to the first byte past the limit
+pub record IsInput (left after : Option (List ℕ)) (input : List ℕ) : Type 0 where
+  pub taken : Consumes left after input
+  pub few : length input ≤ INPUT_BYTES + 1
+  pub whole : length input ≤ INPUT_BYTES → IsAtEnd after
+
+-- longer than any input may be, and refused for that
+pub record IsTooLong (input : List ℕ) (refusal : Refusal) : Type 0 where
+  pub long : INPUT_BYTES < length input
+  pub place_is : refusal.place ≡ INPUT_BYTES
+  pub reason_is : refusal.reason ≡ reasons.Set set_reasons.Limit
+
+-- What `check set` comes to.
+abbrev pub ChecksSet : List ℕ → Verdict → Type 0
+ChecksSet input (verdicts.Refused refusal) = IsTooLong input refusal ⊎ ((length input ≤ INPUT_BYTES) × IsNoSet input refusal.place refusal.reason)
+ChecksSet input (verdicts.Set summary) = (length input ≤ INPUT_BYTES) × IsSummary input summary
+ChecksSet input _ = ⊥
+
+-- What `check text` comes to.
+abbrev pub ChecksText : List ℕ → Verdict → Type 0
+ChecksText input (verdicts.Refused refusal) = IsTooLong input refusal
+ChecksText input (verdicts.Text text) = (length input ≤ INPUT_BYTES) × IsSummedUp (told_of input) text
+ChecksText input _ = ⊥
+
+-- What `check line` comes to: the frames are found when they are printed.
+abbrev pub ChecksLine : List ℕ → Verdict → Type 0
+ChecksLine input (verdicts.Refused refusal) = IsTooLong input refusal
+ChecksLine input (verdicts.Line captured) = (length input ≤ INPUT_BYTES) × (captured.items ≡ input)
+ChecksLine input _ = ⊥
+
+-- What a check comes to.
+abbrev pub Checks : CheckKind → List ℕ → Verdict → Type 0
+Checks checks.Set input verdict = ChecksSet input verdict
+Checks checks.Text input verdict = ChecksText input verdict
+Checks checks.Line input verdict = ChecksLine input verdict
+
+-- what was left in the source before and after, and its count of faults before and after
+pub record Read : Type 0 where
+  pub left : Option (List ℕ)
+  pub after : Option (List ℕ)
+  pub faults : ℕ
+  pub faults_after : ℕ
+
+-- the same of a source as it was and is
+abbrev pub read_of : {S : Type 0} → (S → Option (List ℕ)) → (S → ℕ) → S → S → Read
+read_of left faults old new = record { left = left old; after = left new; faults = faults old; faults_after = faults new }
+
+-- The source failed, and gave no more than is asked for.
+pub record IsUnread (read : Read) (verdict : Verdict) : Type 0 where
+  pub verdict_is : verdict ≡ verdicts.SourceFault
+  pub rose : Rose read.faults read.faults_after
+  pub taken : TakesUpTo (INPUT_BYTES + 1) read.left read.after
+
+-- The input was read, and this is the verdict on it.
+pub record IsChecked (kind : CheckKind) (read : Read) (verdict : Verdict) : Type 0 where
+  pub input : List ℕ
+  pub read_is : IsInput read.left read.after input
+  pub checks : Checks kind input verdict
+
+-- What a job comes to, by what was read and what its station told. A check leaves the station alone, and a `format` the source.
+abbrev pub Does : Type 0 → Job → Read → Served → Verdict → Type 0
+Does tells (jobs.Check kind) read served verdict = IsUnread read verdict ⊎ IsChecked kind read verdict
+Does tells (jobs.Format new) read served verdict = (read.after ≡ read.left) × Formats tells new served verdict
+
+-- The words are those of no job.
+pub record IsNoJob (words : List (List ℕ)) (read : Read) (verdict : Verdict) : Type 0 where
+  pub verdict_is : verdict ≡ verdicts.Words
+  pub none : IsOfNoJob words
+  pub unread : read.after ≡ read.left
+
+-- The words are those of a job, and this is what it comes to.
+pub record IsJobs (tells : Type 0) (words : List (List ℕ)) (read : Read) (served : Served) (verdict : Verdict) : Type 0 where
+  pub job : Job
+  pub spells : Spells job words
+  pub does : Does tells job read served verdict
+
+-- What a run may come to.
+abbrev pub MayCome : Type 0 → List (List ℕ) → Read → Served → Verdict → Type 0
+MayCome tells words read served verdict = IsNoJob words read verdict ⊎ IsJobs tells words read served verdict
+
+-- what is printed is made for this verdict, and so takes memory; of each other verdict one line tells, always the same
+abbrev pub IsComposed : Verdict → Type 0
+IsComposed verdicts.Words = ⊥
+IsComposed verdicts.SourceFault = ⊥
+IsComposed verdicts.StationFault = ⊥
+IsComposed verdicts.Formatted = ⊥
+IsComposed _ = Unit {0}
+
+-- a frame is damaged or bad
+abbrev pub has_refused : List ℕ → Bool
+has_refused bytes = list_any (λ frame. is_refused frame.1) (frames_in bytes)
+
+abbrev pub status_of_line : List ℕ → ℕ
+status_of_line captured = if has_refused captured then INPUT_REFUSED else DONE
+
+abbrev pub status_at : TextEnding → ℕ
+status_at endings.Whole = DONE
+status_at (endings.Refused refusal) = INPUT_REFUSED
+
+abbrev pub status_of : Verdict → ℕ
+status_of verdicts.Words = WORDS_REFUSED
+status_of verdicts.SourceFault = SOURCE_FAILED
+status_of verdicts.StationFault = STATION_FAILED
+status_of (verdicts.Refused refusal) = INPUT_REFUSED
+status_of (verdicts.Set summary) = DONE
+status_of (verdicts.Text text) = status_at text.ending
+status_of (verdicts.Line captured) = status_of_line captured.items
+status_of verdicts.Formatted = DONE
+status_of (verdicts.NotEmpty size) = JOURNAL_REFUSED
