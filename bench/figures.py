@@ -3,8 +3,8 @@
 
 Makes large inputs, runs the program on each, and prints what it took: instructions (counted by
 callgrind), instructions a byte, and peak memory. Then it measures adjustments of 10 to 999 lines with
-the program bench_versions, and the sets of a transmission one by one. It judges nothing and always ends
-with status 0. PROGRAM is crates/dex/out/dex where none is given.
+the program bench_versions, the sets of a transmission one by one, and a session of the line with the
+program bench_line. It judges nothing and always ends with status 0. PROGRAM is crates/dex/out/dex where none is given.
 """
 import os
 import re
@@ -220,6 +220,30 @@ def measure_versions(program, folder):
         print("%5d %11d %11d  %.0f, %.0f" % (count, both, alone, both / count, alone / count))
 
 
+def turns_of_blocks():
+    """4.1 MB that a receiver's session takes in sixteen turns: an enquiry, blocks of 240 bytes, and the end."""
+    text = bytes(0x20 + place * 7 % 95 for place in range(240))
+    blocks = [text + closing for closing in (b"\x17", b"\x03")]
+    more, last = [b"\x10\x02" + text + b"\x10" + block[-1:] + check_of(block).to_bytes(2, "little") for block in blocks]
+    return (b"\x05" + more * 1_050 + last + b"\x04") * 16
+
+
+def measure_line(program, folder):
+    """What a session takes beside the scanner, and beside the writing of what it sends."""
+    if not os.access(program, os.X_OK):
+        print("\nno program at", program, "- build it with: cd crates/bench_line && rt run -- send < stdin")
+        return
+    heard, each = turns_of_blocks(), small_set()
+    sent = 16 * (260_000 // len(each)) * len(each)
+    print()
+    for more, less, data, size in (("take", "scan", heard, len(heard)), ("send", "build", each, sent)):
+        both = counted([program, more], data, folder)
+        if both is None:
+            return
+        beside = both - counted([program, less], data, folder)
+        print("%s: %d instructions beside %s, %.2f a byte" % (more, beside, less, beside / size))
+
+
 def main():
     program = os.path.abspath(sys.argv[1]) if len(sys.argv) > 1 else os.path.join(HOME, "crates", "dex", "out", "dex")
     if not os.access(program, os.X_OK):
@@ -229,6 +253,7 @@ def main():
         measure(program, folder)
         measure_sets(program, folder)
         measure_versions(os.path.join(HOME, "crates", "bench_versions", "out", "bench_versions"), folder)
+        measure_line(os.path.join(HOME, "crates", "bench_line", "out", "bench_line"), folder)
 
 
 if __name__ == "__main__":
