@@ -3,3 +3,4 @@ pub mod Five
 pub mod OneJob
 pub mod OneStatus
 pub mod SumUp
+mod Attaching
