@@ -1,0 +1,5 @@
+pub mod Deeds
+pub mod Standing
+pub mod Signing
+pub mod Finals
+pub mod Agreement
