@@ -1,11 +1,11 @@
 -- The record of calls in a row.
-use Rattle.std.proofs.Common.{◌≡◌, ◌⊎◌, inl, inr, ℕ, ◌+◌, Bool, true, false, if◌then◌else◌, List, [], ◌∷◌, ◌++◌, refl, sym, ◌∙◌, ap, subst, arith, append-nil, append_assoc, Result, Ok, Err, is_ok}
+use Rattle.std.proofs.Common.{◌≡◌, inl, inr, ℕ, ◌+◌, Bool, true, false, if◌then◌else◌, List, [], ◌∷◌, ◌++◌, refl, sym, ◌∙◌, ap, subst, append-nil, append_assoc, Result, Ok, Err, is_ok}
 use Rattle.dsd_station.specs.declared.failed.Failed.{Failed}
 use Rattle.dsd_station.specs.declared.call.Outcome.{Outcome}
 use Rattle.dsd_station.specs.declared.call.Outcome.TheVariants.{Done, Failing, Stopped}
 use Rattle.dsd_station.specs.declared.call.Call.{Call}
 use Rattle.dsd_station.specs.Effects.{AddsAs, answer_of}
-use Rattle.dsd_station.specs.Failures.{failed_in, has_failed, is_failing}
+use Rattle.dsd_station.specs.Failures.{failed_in, has_failed}
 use Rattle.dsd_station.specs.Puts.{Goes}
 use Rattle.dsd_station.specs.Rows.{IsKept, IsRow, Makes}
 use Rattle.dsd_station.specs.Told.{Told}

@@ -1,5 +1,5 @@
 -- A write and a sync behind it.
-use Rattle.std.proofs.Common.{◌≡◌, ℕ, List, [], ◌∷◌, ◌++◌, length, sym, ◌∙◌, ap, subst, Result, Ok, Err, is_ok, true, arith, inl, inr, ◌⊎◌}
+use Rattle.std.proofs.Common.{◌≡◌, ℕ, List, [], ◌∷◌, ◌++◌, length, sym, ◌∙◌, ap, subst, Result, Ok, Err, is_ok, arith, inl, inr, ◌⊎◌}
 use Rattle.dsd_station.specs.declared.failed.Failed.{Failed}
 use Rattle.dsd_station.specs.declared.call.Call.{Call}
 use Rattle.dsd_station.specs.declared.call.Outcome.{Outcome}

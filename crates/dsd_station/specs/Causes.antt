@@ -1,6 +1,7 @@
 -- When a call to the outside may answer that it failed, and what a sink takes.
-use Rattle.std.specs.Prelude.{◌≡◌, ℕ, ◌+◌, ◌-◌, ◌^◌, ◌<◌, ◌≤◌, min, List, ◌++◌, length, Option, Result, IfOk, OnOk, OnErr}
+use Rattle.std.specs.Prelude.{◌≡◌, ℕ, ◌+◌, ◌-◌, ◌^◌, ◌<◌, ◌≤◌, ◌⊎◌, min, nat_eq, if◌then◌else◌, List, ◌++◌, length, Option, Result, IfOk, OnOk, OnErr}
 use Rattle.std.specs.Io.KnownBytes.{Appends, Consumes}
+use Rattle.dsd_station.specs.Feeds.{counted}
 
 -- the count of faults has gone up by one or more, or stands at the last value of its type
 abbrev pub Rose : ℕ → ℕ → Type 0
@@ -15,6 +16,14 @@ pub record HasCause {T E : Type 0} (before now : ℕ) (result : Result T E) : Ty
 -- a write takes no more than the piece, and at least one byte of a piece that is not empty
 abbrev pub TakesSome : {E : Type 0} → Result ℕ E → List ℕ → Type 0
 TakesSome result piece = IfOk result (λ n. (n ≤ length piece) × (0 < length piece → 0 < n))
+
+-- a read that gives no byte has heard the end, and is counted; no other read is
+abbrev pub CountsEnd : {E : Type 0} → ℕ → ℕ → Result ℕ E → Type 0
+CountsEnd before now result = IfOk result (λ n. now ≡ (if nat_eq n 0 then counted before else before)) × OnErr result (now ≡ before)
+
+-- no end was heard, or one
+abbrev pub OneEndAtMost : ℕ → ℕ → Type 0
+OneEndAtMost before now = (now ≡ before) ⊎ (now ≡ counted before)
 
 -- some first part of the text was added to what was written, and nothing else
 abbrev pub WritesFront : Option (List ℕ) → Option (List ℕ) → List ℕ → Type 0

@@ -1,11 +1,12 @@
 -- What a source and a sink in memory are seen as.
 use Rattle.std.specs.Prelude.{ℕ, ◌+◌, ◌-◌, ◌^◌, List, min}
 
--- the bytes left, the numbers of the calls that fail, and how many calls and faults there were
+-- the bytes left, the numbers of the calls that fail, and how many calls, heard ends and faults there were
 pub record Feed : Type 0 where
   pub left : List ℕ
   pub failing : List ℕ
   pub calls : ℕ
+  pub ends : ℕ
   pub faults : ℕ
 
 -- the bytes written, how many more there is room for, and the same of the calls

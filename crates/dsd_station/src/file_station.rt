@@ -1,4 +1,4 @@
-ghost use Rattle.std.specs.Prelude.{◌≡◌, ◌≤◌, ◌<◌, length, IfOk, Ok, Err};
+ghost use Rattle.std.specs.Prelude.{◌≡◌, ◌<◌, IfOk, Ok, Err};
 ghost use Rattle.dsd_station.specs.Causes.{HasCause};
 ghost use Rattle.dsd_station.specs.Told.{nothing_told};
 ghost use Rattle.dsd_station.specs.Effects.{IsPiece};

@@ -1,4 +1,4 @@
-ghost use Rattle.std.specs.Prelude.{◌≡◌, ◌≤◌, ◌<◌, ◌+◌, ◌-◌, ◌++◌, min, length, take, drop, IfOk, OnErr, Ok, Err};
+ghost use Rattle.std.specs.Prelude.{◌≡◌, ◌≤◌, ◌<◌, ◌+◌, ◌-◌, min, length, take, drop, IfOk, OnErr, Ok, Err};
 ghost use Rattle.dsd_station.specs.ByPlan.{outcome_by, due_by, unless_stopped as answer_unless_stopped};
 ghost use Rattle.dsd_station.specs.Causes.{HasCause};
 ghost use Rattle.dsd_station.specs.Effects.{Attaches, Reads, ReadsFront, Writes, Syncs, Listens, LeavesRest, Speaks, IsPiece, answer_of, heard_in, listened};

@@ -133,7 +133,7 @@ fn is_same(one: &Metadata, other: &Metadata) -> bool {
 }
 
 /// What stands under a name, or none where nothing does.
-fn look<R: Files>(files: &R, path: &str) -> io::Result<Option<Metadata>> {
+pub(crate) fn look<R: Files>(files: &R, path: &str) -> io::Result<Option<Metadata>> {
     match ask_again(|| files.metadata(path)) {
         Ok(found) => Ok(Some(found)),
         Err(error) if error.kind() == ErrorKind::NotFound => Ok(None),

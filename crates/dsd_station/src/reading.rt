@@ -1,6 +1,6 @@
 ghost use Rattle.std.specs.Prelude.{◌≡◌, ℕ, ◌+◌, ◌<◌, ◌≤◌, List, ◌++◌, length, IfOk, OnOk, OnErr, IsErrOf, vec_len};
 ghost use Rattle.std.specs.Io.KnownBytes.{Consumes, IsAtEnd};
-ghost use Rattle.dsd_station.specs.Causes.{Rose, TakesUpTo};
+ghost use Rattle.dsd_station.specs.Causes.{OneEndAtMost, Rose, TakesUpTo};
 ghost use Rattle.dsd_station.specs.declared.reading.ReadFault.TheVariants.{Failed as ReadFailed, Memory};
 
 use crate::{Failed, Source};
@@ -34,7 +34,8 @@ impl From<AllocError> for ReadFault {
     }
 }
 
-/// Reads a source to its end, or until it has given `limit` bytes. It asks for no byte more.
+/// Reads a source to its end, or until it has given `limit` bytes. It asks for no byte more, and does not read again
+/// after the end: no second one can be heard.
 pub fn read_up_to<S: Source>(
     alloc: Global,
     source: &mut S,
@@ -44,6 +45,7 @@ pub fn read_up_to<S: Source>(
     ensures bytes { IfOk result (λ all. Consumes (S.left source.old) (S.left source.new) all.items) }
     ensures kept { OnOk result (S.faults source.new ≡ S.faults source.old) }
     ensures end { IfOk result (λ all. vec_len all < limit → IsAtEnd (S.left source.new)) }
+    ensures ended { OneEndAtMost (S.ends source.old) (S.ends source.new) }
     ensures taken { OnErr result (TakesUpTo limit (S.left source.old) (S.left source.new)) }
     ensures later { S.faults source.old ≤ S.faults source.new }
     ensures failed { IsErrOf result ReadFault.Failed → Rose (S.faults source.old) (S.faults source.new) }
@@ -71,6 +73,8 @@ fn read_piece<S: Source>(
     ensures bytes { OnOk result ((piece : List ℕ) × (all.new.items ≡ all.old.items ++ piece) × Consumes (S.left source.old) (S.left source.new) piece) }
     ensures kept { OnOk result (S.faults source.new ≡ S.faults source.old) }
     ensures end { IfOk result (λ n. n ≡ 0 → IsAtEnd (S.left source.new)) }
+    ensures ended { IfOk result (λ n. 0 < n → S.ends source.new ≡ S.ends source.old) }
+    ensures once { OneEndAtMost (S.ends source.old) (S.ends source.new) }
     ensures taken { OnErr result ((piece : List ℕ) × (vec_len all.old + length piece ≤ limit) × Consumes (S.left source.old) (S.left source.new) piece) }
     ensures later { S.faults source.old ≤ S.faults source.new }
     ensures failed { IsErrOf result ReadFault.Failed → Rose (S.faults source.old) (S.faults source.new) }

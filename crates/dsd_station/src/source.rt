@@ -1,7 +1,7 @@
 ghost use Rattle.std.specs.Prelude.{ℕ, List, Option};
 ghost use Rattle.std.specs.Io.{ReadsAtMost};
 ghost use Rattle.std.specs.Io.KnownBytes.{ReadConsumes};
-ghost use Rattle.dsd_station.specs.Causes.{HasCause};
+ghost use Rattle.dsd_station.specs.Causes.{CountsEnd, HasCause};
 
 use crate::Failed;
 
@@ -9,6 +9,9 @@ use crate::Failed;
 pub trait Source {
     /// The bytes that are left, where the source tells them.
     ghost left: { Self → Option (List ℕ) };
+
+    /// How many reads gave no byte, up to the last value of 64 bits.
+    ghost ends: { Self → ℕ };
 
     /// How many calls have failed, up to the last value of 64 bits. It never falls.
     ghost faults: { Self → ℕ };
@@ -18,5 +21,6 @@ pub trait Source {
     fn read(&mut self, into: &mut [u8]) -> Result<usize, Failed>
         ensures bound { ReadsAtMost result into.new }
         ensures bytes { ReadConsumes (left self.old) (left self.new) result into.new }
+        ensures ended { CountsEnd (ends self.old) (ends self.new) result }
         ensures cause { HasCause (faults self.old) (faults self.new) result };
 }

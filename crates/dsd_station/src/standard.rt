@@ -1,6 +1,6 @@
-ghost use Rattle.std.specs.Prelude.{◌≡◌, ℕ};
+ghost use Rattle.std.specs.Prelude.{◌≡◌};
 ghost use Rattle.std.specs.Io.{ReadsAtMost, WritesAtMost};
-ghost use Rattle.std.specs.Io.KnownBytes.{Keeps, ReadConsumes, WriteAppends};
+ghost use Rattle.std.specs.Io.KnownBytes.{ReadConsumes, WriteAppends};
 
 use crate::{Failed, Sink, Source};
 use std::fs::File;
@@ -16,22 +16,33 @@ pub(crate) const MOST_INTERRUPTS: u32 = 1_000_000;
 #[derive(Drop)]
 pub struct StdSource<R: Read> {
     reader: R,
+    ends: u64,
     faults: u64,
 }
 
 impl<R: Read> StdSource<R> {
     pub fn new(reader: R) -> Self {
-        StdSource { reader, faults: 0 }
+        StdSource {
+            reader,
+            ends: 0,
+            faults: 0,
+        }
     }
 }
 
 impl<R: Read> Source for StdSource<R> {
     ghost left = { λ s. R.remaining s.reader };
 
+    ghost ends = { λ s. s.ends };
+
     ghost faults = { λ s. s.faults };
 
     fn read(&mut self, into: &mut [u8]) -> Result<usize, Failed> {
         match read_again(&mut self.reader, into) {
+            Ok(0) => {
+                self.ends = self.ends.saturating_add(1);
+                Ok(0)
+            }
             Ok(count) => Ok(count),
             Err(_) => {
                 self.faults = self.faults.saturating_add(1);
@@ -47,12 +58,37 @@ impl<R: Read> Source for StdSource<R> {
 #[derive(Drop)]
 pub struct StdSink<W: Write> {
     writer: W,
+    is_shut: bool,
     faults: u64,
 }
 
 impl<W: Write> StdSink<W> {
     pub fn new(writer: W) -> Self {
-        StdSink { writer, faults: 0 }
+        StdSink {
+            writer,
+            is_shut: false,
+            faults: 0,
+        }
+    }
+
+    /// A sink that hands nothing to its writer: each write is a fault.
+    pub fn shut(writer: W) -> Self {
+        StdSink {
+            writer,
+            is_shut: true,
+            faults: 0,
+        }
+    }
+
+    fn hand_on(&mut self, from: &[u8]) -> io::Result<usize>
+        ensures bound { WritesAtMost result from.now }
+        ensures bytes { WriteAppends (W.contents self.old.writer) (W.contents self.new.writer) result from.now }
+        ensures count { self.old.faults ≡ self.new.faults }
+    {
+        if self.is_shut {
+            return Err(io::Error::from(ErrorKind::PermissionDenied));
+        }
+        write_again(&mut self.writer, from)
     }
 }
 
@@ -62,7 +98,7 @@ impl<W: Write> Sink for StdSink<W> {
     ghost faults = { λ s. s.faults };
 
     fn write(&mut self, from: &[u8]) -> Result<usize, Failed> {
-        match write_again(&mut self.writer, from) {
+        match self.hand_on(from) {
             Ok(count) if count > 0 || from.is_empty() => Ok(count),
             _ => {
                 self.faults = self.faults.saturating_add(1);

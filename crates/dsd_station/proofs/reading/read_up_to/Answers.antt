@@ -6,4 +6,4 @@ pub returns-in_err-read_piece-clause-taken : goal.returns-in_err-read_piece-clau
 returns-in_err-read_piece-clause-taken g c =
     let last = c.in_err-read_piece.ensures.taken in
     let all = c.loop-piece.all in
-    on_err c.from_residual.result (takes_more c.args.limit _ _ _ all.items last.0 c.loop-piece.invariant.2 (omega (arith, last.1, all.ok.0)) last.2)
+    on_err c.from_residual.result (takes_more c.args.limit _ _ _ all.items last.0 c.loop-piece.invariant.3 (omega (arith, last.1, all.ok.0)) last.2)
