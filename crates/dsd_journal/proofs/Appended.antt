@@ -1,15 +1,15 @@
 -- From the device calls of a flush to the entries of its journal.
-use Rattle.std.proofs.Common.{◌≡◌, inl, ℕ, ◌+◌, ◌<◌, List, [], ◌∷◌, ◌++◌, length, drop, refl, sym, ◌∙◌, ap, subst, arith, append_assoc, append-nil, length-append, Result, Ok, Err, OnOk, is_ok}
+use Rattle.std.proofs.Common.{◌≡◌, inl, ℕ, ◌+◌, ◌<◌, List, [], ◌∷◌, ◌++◌, length, drop, refl, sym, ◌∙◌, ap, subst, arith, append_assoc, length-append, Result, Ok, Err, is_ok}
 use Rattle.dsd_station.specs.declared.failed.Failed.{Failed}
 use Rattle.dsd_station.specs.Disk.{overwritten, MayLeave}
 use Rattle.dsd_station.specs.Rows.{Makes}
 use Rattle.dsd_station.specs.Stops.{none_passed, weaken}
-use Rattle.dsd_station.specs.Told.{Told, Moment, Allows, EachStop, LeavesAt}
+use Rattle.dsd_station.specs.Told.{Told, Allows, EachStop}
 use Rattle.dsd_station.proofs.Making.{row_fine}
 use Rattle.dsd_journal.specs.declared.entry.Entry.{Entry}
 use Rattle.dsd_journal.specs.declared.header.Header.{Header}
 use Rattle.dsd_journal.specs.declared.limits.TheConstants.{JOURNAL_BYTES}
-use Rattle.dsd_journal.specs.Devices.{Appends, Unfailed}
+use Rattle.dsd_journal.specs.Devices.{Appends}
 use Rattle.dsd_journal.specs.JournalImage.{open_gate, gate_place, body, spelled, EachFits, Holds}
 use Rattle.dsd_journal.specs.Journals.{Rests, WithOrWithout}
 use Rattle.dsd_journal.specs.Steps.{batch_of, flush_calls, gate_calls, with_batch, Flushes, TornInTwo, Opened}

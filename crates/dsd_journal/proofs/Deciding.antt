@@ -2,7 +2,7 @@
 use Rattle.std.proofs.Common.{◌≡◌, ◌⊎◌, inl, inr, ℕ, zero, suc, ◌+◌, ◌<◌, ◌≤◌, true, List, [], ◌∷◌, ◌++◌, length, get_or, take, drop, refl, sym, ap, subst, arith, length-append, length-take, Option, Some, None, Result, Ok, Err}
 use Rattle.std.proofs.lemmas.Bool.{cases_eq, cases_lt, cases_Bool}
 use Rattle.std.proofs.lemmas.List.{take-append-drop, get_or-take}
-use Rattle.dsd_journal.specs.declared.limits.TheConstants.{JOURNAL_BYTES}
+use Rattle.dsd_journal.specs.declared.limits.TheConstants.{HEADER_BYTES, JOURNAL_BYTES}
 use Rattle.dsd_journal.specs.declared.entry.Entry.{Entry}
 use Rattle.dsd_journal.specs.declared.entry.EntryKind.{EntryKind}
 use Rattle.dsd_journal.specs.declared.header.Header.{Header}
@@ -43,8 +43,8 @@ module _ (header : Header) (image : List ℕ) where
   entries_decided zero es x leads near less = absurd (omega (arith, less))
   entries_decided (suc fuel) es x leads near less = step es x leads near (λ more y at there shorter. entries_decided fuel more y at there (omega (arith, shorter, less)))
 
-header_decided : (image : List ℕ) (left place : ℕ) → place + left ≡ 27 → FitsBelow place image → place ≤ length image → ((FitsBelow 27 image) × (27 ≤ length image)) ⊎ ((at : ℕ) × IsRefused image at)
-header_decided image zero place sum fits inside = let all : place ≡ 27 = omega (arith, sum) in inl (subst (λ n. FitsBelow n image) all fits, omega (arith, all, inside))
+header_decided : (image : List ℕ) (left place : ℕ) → place + left ≡ HEADER_BYTES → FitsBelow place image → place ≤ length image → ((FitsBelow HEADER_BYTES image) × (HEADER_BYTES ≤ length image)) ⊎ ((at : ℕ) × IsRefused image at)
+header_decided image zero place sum fits inside = let all : place ≡ HEADER_BYTES = omega (arith, sum) in inl (subst (λ n. FitsBelow n image) all fits, omega (arith, all, inside))
 header_decided image (suc left) place sum fits inside = elim (cases_eq place (length image)) [
   | inl end ↦ inr (place, header_refused image place low inside fits (inl end))
   | inr other ↦ elim (cases_Bool (header_fits place (get_or image place 0))) [
@@ -53,18 +53,18 @@ header_decided image (suc left) place sum fits inside = elim (cases_eq place (le
   ]
 ]
   where
-    low : place < 27
+    low : place < HEADER_BYTES
     low = omega (arith, sum)
 
     more : header_fits place (get_or image place 0) ≡ true → FitsBelow (place + 1) image
     more is i less = elim (cases_lt i place) [ inl before ↦ fits i before | inr past ↦ (let at : i ≡ place = omega (arith, past, less) in subst (λ (n : ℕ). header_fits n (get_or image n 0) ≡ true) (sym at) is) ]
 
 pub image_decided : (image : List ℕ) → Decided image
-image_decided image = elim (header_decided image 27 0 refl (λ i less. absurd (omega (arith, less))) (omega arith)) [ inl titled ↦ go titled.0 titled.1 | inr refused ↦ inr refused ]
+image_decided image = elim (header_decided image HEADER_BYTES 0 refl (λ i less. absurd (omega (arith, less))) (omega arith)) [ inl titled ↦ go titled.0 titled.1 | inr refused ↦ inr refused ]
   where
-    go : FitsBelow 27 image → 27 ≤ length image → Decided image
+    go : FitsBelow HEADER_BYTES image → HEADER_BYTES ≤ length image → Decided image
     go fits long =
-        let cut : length (take 27 image) ≡ 27 = omega (arith, length-take 27 image, long) in
-        let front : FitsBelow 27 (take 27 image) = λ i less. subst (λ (b : ℕ). header_fits i b ≡ true) (sym (get_or-take 27 image i 0 less)) (fits i less) in
-        let leads = subst (λ l. Leads (header_of (take 27 image)) [] (drop 27 image) l) (take-append-drop 27 image) (header_leads (take 27 image) cut front (drop 27 image)) in
-        entries_decided (header_of (take 27 image)) image (length (drop 27 image) + 1) [] (drop 27 image) leads (omega arith) (omega arith)
+        let cut : length (take HEADER_BYTES image) ≡ HEADER_BYTES = omega (arith, length-take HEADER_BYTES image, long) in
+        let front : FitsBelow HEADER_BYTES (take HEADER_BYTES image) = λ i less. subst (λ (b : ℕ). header_fits i b ≡ true) (sym (get_or-take HEADER_BYTES image i 0 less)) (fits i less) in
+        let leads = subst (λ l. Leads (header_of (take HEADER_BYTES image)) [] (drop HEADER_BYTES image) l) (take-append-drop HEADER_BYTES image) (header_leads (take HEADER_BYTES image) cut front (drop HEADER_BYTES image)) in
+        entries_decided (header_of (take HEADER_BYTES image)) image (length (drop HEADER_BYTES image) + 1) [] (drop HEADER_BYTES image) leads (omega arith) (omega arith)

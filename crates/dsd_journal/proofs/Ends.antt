@@ -2,7 +2,7 @@
 use Rattle.std.proofs.Common.{◌≡◌, ◌⊎◌, inl, inr, ℕ, ◌+◌, ◌<◌, ◌≤◌, true, false, List, ◌∷◌, ◌++◌, length, get_or, take, drop, sym, ◌∙◌, ap, subst, arith, append_assoc, length-append, length-take}
 use Rattle.std.proofs.lemmas.List.{take_all, take-append-drop, take-append-le, get_or-take}
 use Rattle.std.specs.Int.{w32, to_be_bytes}
-use Rattle.dsd_journal.specs.declared.limits.TheConstants.{JOURNAL_BYTES}
+use Rattle.dsd_journal.specs.declared.limits.TheConstants.{HEADER_BYTES, JOURNAL_BYTES}
 use Rattle.dsd_journal.specs.declared.entry.Entry.{Entry}
 use Rattle.dsd_journal.specs.declared.header.Header.{Header}
 use Rattle.dsd_journal.specs.JournalImage.{open_gate, kind_letter, gate_place, Leads, Holds}
@@ -43,7 +43,7 @@ module _ (header : Header) (es : List Entry) (bytes image : List ℕ) (at : ℕ)
         go (inl none) = end_refused header es image near (subst (λ l. Leads header es l image) none all)
         go (inr u) = unfinished_refused header es u.0 image (subst (λ l. Leads header es l image) u.1 all) near u.2
 
-pub mistitled_refused : (image bytes : List ℕ) (at place : ℕ) → bytes ≡ take at image → at ≤ length image → (at < 27 → at ≡ length image) → IsMistitled bytes place → IsRefused image place
+pub mistitled_refused : (image bytes : List ℕ) (at place : ℕ) → bytes ≡ take at image → at ≤ length image → (at < HEADER_BYTES → at ≡ length image) → IsMistitled bytes place → IsRefused image place
 mistitled_refused image bytes at place is inside end m = header_refused image place m.low (omega (arith, m.inside, long, inside)) fits (cause m.cause)
   where
     long : length bytes ≡ at
@@ -56,5 +56,5 @@ mistitled_refused image bytes at place is inside end m = header_refused image pl
     fits i less = let below : i < at = omega (arith, less, m.inside, long) in subst (λ (b : ℕ). header_fits i b ≡ true) (same i below) (m.before i less)
 
     cause : (place ≡ length bytes) ⊎ ((place < length bytes) × (header_fits place (get_or bytes place 0) ≡ false)) → (place ≡ length image) ⊎ ((place < length image) × (header_fits place (get_or image place 0) ≡ false))
-    cause (inl stop) = let all : place ≡ at = omega (arith, stop, long) in let low : at < 27 = omega (arith, all, m.low) in inl (omega (arith, all, end low))
+    cause (inl stop) = let all : place ≡ at = omega (arith, stop, long) in let low : at < HEADER_BYTES = omega (arith, all, m.low) in inl (omega (arith, all, end low))
     cause (inr bad) = let below : place < at = omega (arith, bad.0, long) in inr (omega (arith, below, inside), subst (λ (b : ℕ). header_fits place b ≡ false) (same place below) bad.1)

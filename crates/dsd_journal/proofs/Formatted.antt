@@ -10,6 +10,7 @@ use Rattle.dsd_station.specs.Effects.{Reads, Syncs, Writes}
 use Rattle.dsd_station.specs.Rows.{Makes, put_calls}
 use Rattle.dsd_station.specs.Told.{Told, Moment}
 use Rattle.dsd_station.proofs.Making.{makes_one, makes_stop, makes_then, row_fine}
+use Rattle.dsd_journal.specs.declared.limits.TheConstants.{FORMATTED_BYTES}
 use Rattle.dsd_journal.specs.declared.header.Header.{Header}
 use Rattle.dsd_journal.specs.declared.formatting.FormatFault.{FormatFault}
 use Rattle.dsd_journal.specs.declared.formatting.FormatFault.TheVariants.{NotEmpty, Station}
@@ -21,14 +22,14 @@ use Rattle.dsd_journal.proofs.Looking.{keeps_then, unfailed_then, look_kept, loo
 use Rattle.dsd_journal.proofs.Peeling.{header_length}
 use Rattle.dsd_journal.proofs.Refusing.{shut_holds}
 
-formatted_length : (h : Header) → IsHeader h → length (formatted h) ≡ 28
+formatted_length : (h : Header) → IsHeader h → length (formatted h) ≡ FORMATTED_BYTES
 formatted_length h is = omega (arith, length-append (header_bytes h) (0 ∷ []), header_length h is)
 
 over_nothing : (bytes : List ℕ) → overwritten [] 0 bytes ≡ bytes
 over_nothing bytes = ap (λ (l : List ℕ). bytes ++ l) (drop_all (0 + length bytes) [] (omega arith)) ∙ append-nil bytes
 
 module _ (header : Header) (bytes : List ℕ) (is : bytes ≡ formatted header) (titled : IsHeader header) (a b : Told) (empty : a.journal ≡ []) where
-  torn_at : (r : Result (Unit {0}) Failed) → Writes 0 bytes r a b → Torn 0 28 [] b.journal
+  torn_at : (r : Result (Unit {0}) Failed) → Writes 0 bytes r a b → Torn 0 FORMATTED_BYTES [] b.journal
   torn_at r w = subst (λ (n : ℕ). Torn 0 n [] b.journal) (ap length is ∙ formatted_length header titled) (subst (λ (j : List ℕ). Torn 0 (length bytes) j b.journal) empty w.torn)
 
   pub header_failed : (failed : Failed) → Writes 0 bytes (Err failed) a b → WritesHeader header (Err failed) a b
@@ -67,7 +68,7 @@ module _ (header : Header) (bytes : List ℕ) (is : bytes ≡ formatted header) 
         record { sure = ap (λ (m : Moment). m.sure) s.ok.1.now ∙ sym s.ok.0.journal; writes = ap (λ (m : Moment). m.writes) s.ok.1.now },
         unfailed (made_both (Ok ended) s),
       );
-      torn = subst (λ (j : List ℕ). Torn 0 28 [] j) (sym s.ok.0.journal) (torn_at (Ok done) w);
+      torn = subst (λ (j : List ℕ). Torn 0 FORMATTED_BYTES [] j) (sym s.ok.0.journal) (torn_at (Ok done) w);
     }
     header_written (Err failed) s = record {
       keeps = keeps_then a b c (write_keeps 0 bytes (Ok done) a b w) (sync_keeps (Err failed) b c s);
@@ -75,7 +76,7 @@ module _ (header : Header) (bytes : List ℕ) (is : bytes ≡ formatted header) 
       syncs = count (Err failed) s;
       made = made_both (Err failed) s;
       ok = tt;
-      torn = subst (λ (j : List ℕ). Torn 0 28 [] j) (sym s.err.0.journal) (torn_at (Ok done) w);
+      torn = subst (λ (j : List ℕ). Torn 0 FORMATTED_BYTES [] j) (sym s.err.0.journal) (torn_at (Ok done) w);
     }
 
 -- ---- behind the size

@@ -1,14 +1,13 @@
 -- Calls that only look at the journal, one after the other.
-use Rattle.std.proofs.Common.{◌≡◌, ◌⊎◌, inl, inr, ℕ, zero, suc, ◌+◌, ◌<◌, ◌≤◌, Bool, false, cond, Result, Ok, Err, OnErr, List, [], ◌∷◌, ◌++◌, length, take, drop, refl, sym, ◌∙◌, ap, subst, arith, append_assoc, append-nil, length-drop}
+use Rattle.std.proofs.Common.{◌≡◌, ◌⊎◌, inl, inr, ℕ, zero, suc, ◌+◌, ◌<◌, ◌≤◌, Bool, false, cond, List, [], ◌∷◌, ◌++◌, length, take, drop, refl, sym, ◌∙◌, ap, subst, arith, append_assoc, append-nil, length-drop}
 use Rattle.std.proofs.lemmas.Bool.{cases_lt}
 use Rattle.dsd_station.specs.declared.call.Call.{Call}
 use Rattle.dsd_station.specs.declared.call.Call.TheVariants.{Read}
-use Rattle.dsd_station.specs.declared.failed.Failed.{Failed}
 use Rattle.dsd_station.specs.Effects.{Passes, Reads, Stays}
 use Rattle.dsd_station.specs.Failures.{failed_in, has_failed}
 use Rattle.dsd_station.specs.Puts.{Goes}
 use Rattle.dsd_station.specs.Rows.{IsKept}
-use Rattle.dsd_station.specs.Stops.{none_passed, reads_stops, then}
+use Rattle.dsd_station.specs.Stops.{reads_stops, then}
 use Rattle.dsd_station.specs.Told.{Told, Moment, LeavesAt, EachStop}
 use Rattle.dsd_journal.specs.Devices.{AreReads, KeepsTalk, ReadsOnly, Unfailed, Untouched, Looks}
 use Rattle.dsd_journal.specs.Pieces.{IsSoFar, ReadsOn}

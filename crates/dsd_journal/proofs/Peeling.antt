@@ -4,6 +4,7 @@ use Rattle.std.proofs.lemmas.List.{take_at, drop_at, append-nil}
 use Rattle.std.specs.Int.{w32, to_be_bytes}
 use Rattle.dsd_values.specs.declared.role.Role.{Role}
 use Rattle.dsd_values.specs.declared.role.Role.TheVariants.{Supplier, Receiver}
+use Rattle.dsd_journal.specs.declared.limits.TheConstants.{HEADER_BYTES}
 use Rattle.dsd_journal.specs.declared.entry.Entry.{Entry}
 use Rattle.dsd_journal.specs.declared.entry.EntryKind.{EntryKind}
 use Rattle.dsd_journal.specs.declared.entry.EntryKind.TheVariants.{Signed, Took}
@@ -86,7 +87,7 @@ roles Supplier Receiver e = absurd (omega (arith, e))
 roles Receiver Supplier e = absurd (omega (arith, e))
 roles Receiver Receiver e = refl
 
-pub header_length : (h : Header) → IsHeader h → length (header_bytes h) ≡ 27
+pub header_length : (h : Header) → IsHeader h → length (header_bytes h) ≡ HEADER_BYTES
 header_length h is = omega (arith, length-append h.own (h.peer ++ 10 ∷ []), length-append h.peer (10 ∷ []), is.own.ten, is.peer.ten)
 
 header_is : (a b : Header) → a.role ≡ b.role → a.own ≡ b.own → a.peer ≡ b.peer → a ≡ b

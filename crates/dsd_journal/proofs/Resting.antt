@@ -1,5 +1,5 @@
 -- What stays of a journal while other calls are made.
-use Rattle.std.proofs.Common.{◌≡◌, ℕ, List, [], ◌∷◌, ◌++◌, sym, ◌∙◌, subst, append_assoc}
+use Rattle.std.proofs.Common.{◌≡◌, ℕ, List, [], ◌∷◌, sym, ◌∙◌, subst, append_assoc}
 use Rattle.dsd_station.specs.Stops.{then, weaken}
 use Rattle.dsd_station.specs.Told.{Told, EachStop}
 use Rattle.dsd_journal.specs.declared.entry.Entry.{Entry}

@@ -4,11 +4,10 @@ use Rattle.std.proofs.lemmas.List.{append-nil, drop_at}
 use Rattle.dsd_values.specs.declared.limits.TheConstants.{SET_BYTES}
 use Rattle.dsd_journal.specs.declared.limits.TheConstants.{JOURNAL_BYTES}
 use Rattle.dsd_journal.specs.declared.entry.Entry.{Entry}
-use Rattle.dsd_journal.specs.declared.entry.EntryKind.{EntryKind}
 use Rattle.dsd_journal.specs.declared.header.Header.{Header}
 use Rattle.dsd_journal.specs.Headers.{header_bytes}
-use Rattle.dsd_journal.specs.JournalImage.{open_gate, body, spelled, gate_place, EachFits, Leads}
-use Rattle.dsd_journal.specs.Reading.{IsBad, IsWaiting, IsWhole, Takes, MeetsBad}
+use Rattle.dsd_journal.specs.JournalImage.{open_gate, spelled, gate_place, EachFits, Leads}
+use Rattle.dsd_journal.specs.Reading.{IsBad, IsWaiting, Takes, MeetsBad}
 use Rattle.dsd_journal.proofs.Peeling.{spelled_append, body_length}
 
 pub each_append : (es fs : List Entry) → EachFits es → EachFits fs → EachFits (es ++ fs)

@@ -9,6 +9,7 @@ use Rattle.dsd_values.proofs.Digits.{none_all}
 use Rattle.dsd_values.specs.Reading.{IsIdText, is_no_id_byte}
 use Rattle.dsd_values.specs.declared.role.Role.{Role}
 use Rattle.dsd_values.specs.declared.role.Role.TheVariants.{Supplier, Receiver}
+use Rattle.dsd_journal.specs.declared.limits.TheConstants.{HEADER_BYTES}
 use Rattle.dsd_journal.specs.declared.entry.Entry.{Entry}
 use Rattle.dsd_journal.specs.declared.header.Header.{Header}
 use Rattle.dsd_journal.specs.Headers.{IsId, IsHeader, header_bytes, role_letter}
@@ -97,7 +98,7 @@ module _ (h : Header) (is : IsHeader h) where
   fits_peer i low high = subst (λ (b : ℕ). header_fits i b ≡ true) (sym (peer_at i low high))
       (fits_id i (get_or h.peer (i - 6 - 10) 0) (omega (arith, low)) high (id_byte h.peer is.peer.text (i - 6 - 10) (omega (arith, high, low, is.peer.ten))))
 
-  header_fits_at : (i : ℕ) → i < 27 → header_fits i (get_or (header_bytes h) i 0) ≡ true
+  header_fits_at : (i : ℕ) → i < HEADER_BYTES → header_fits i (get_or (header_bytes h) i 0) ≡ true
   header_fits_at i less = elim (cases_lt i 6) [
     | inl front ↦ fits_front i front
     | inr low ↦ elim (cases_lt i 16) [
@@ -110,29 +111,29 @@ module _ (h : Header) (is : IsHeader h) where
   ]
 
 -- whatever begins with a header fits as far as that
-pub titled_fits : (h : Header) (es : List Entry) (x bytes : List ℕ) → Leads h es x bytes → (FitsBelow 27 bytes) × (27 ≤ length bytes)
+pub titled_fits : (h : Header) (es : List Entry) (x bytes : List ℕ) → Leads h es x bytes → (FitsBelow HEADER_BYTES bytes) × (HEADER_BYTES ≤ length bytes)
 titled_fits h es x bytes leads = (
   λ i less. subst (λ (b : ℕ). header_fits i b ≡ true) (sym (at i less)) (header_fits_at h leads.titled i less),
   omega (arith, ap length leads.split, length-append (header_bytes h) (spelled es ++ x), header_length h leads.titled),
 )
   where
-    at : (i : ℕ) → i < 27 → get_or bytes i 0 ≡ get_or (header_bytes h) i 0
+    at : (i : ℕ) → i < HEADER_BYTES → get_or bytes i 0 ≡ get_or (header_bytes h) i 0
     at i less = ap (λ (l : List ℕ). get_or l i 0) leads.split ∙ get_or_append_left (header_bytes h) (spelled es ++ x) 0 i (omega (arith, less, header_length h leads.titled))
 
 -- ---- the header of 27 bytes that fit
 
-module _ (bytes : List ℕ) (long : length bytes ≡ 27) (fits : FitsBelow 27 bytes) where
-  piece : (start i : ℕ) → i < 10 → start + 10 ≤ 27 → get_or (take 10 (drop start bytes)) i 0 ≡ get_or bytes (start + i) 0
+module _ (bytes : List ℕ) (long : length bytes ≡ HEADER_BYTES) (fits : FitsBelow HEADER_BYTES bytes) where
+  piece : (start i : ℕ) → i < 10 → start + 10 ≤ HEADER_BYTES → get_or (take 10 (drop start bytes)) i 0 ≡ get_or bytes (start + i) 0
   piece start i less inside = get_or-take 10 (drop start bytes) i 0 less ∙ get_or-drop start bytes i 0
 
   pub id_at : (start : ℕ) → 6 ≤ start → start + 10 ≤ 26 → IsId (take 10 (drop start bytes))
   id_at start low high = record {
     ten = ten;
     text = id_text (take 10 (drop start bytes)) (λ i inside. (let less : i < 10 = omega (arith, inside, ten) in
-        let below : start + i < 27 = omega (arith, less, high) in
+        let below : start + i < HEADER_BYTES = omega (arith, less, high) in
         let under : start + i < 26 = omega (arith, less, high) in
         let over : 6 ≤ start + i = omega (arith, low) in
-        let room : start + 10 ≤ 27 = omega (arith, high) in
+        let room : start + 10 ≤ HEADER_BYTES = omega (arith, high) in
         subst (λ (b : ℕ). is_no_id_byte b ≡ false) (sym (piece start i less room)) (id_fits (start + i) (get_or bytes (start + i) 0) over under (fits (start + i) below))));
   }
     where
@@ -163,7 +164,7 @@ module _ (bytes : List ℕ) (long : length bytes ≡ 27) (fits : FitsBelow 27 by
 
   all_at : (i : ℕ) → i < length (header_bytes (header_of bytes)) → get_or (header_bytes (header_of bytes)) i 0 ≡ get_or bytes i 0
   all_at i inside =
-      let less : i < 27 = omega (arith, inside, header_length (header_of bytes) header_of_is) in
+      let less : i < HEADER_BYTES = omega (arith, inside, header_length (header_of bytes) header_of_is) in
       elim (cases_lt i 6) [
         | inl front ↦ front_at i front
         | inr low ↦ elim (cases_lt i 16) [
@@ -181,11 +182,11 @@ module _ (bytes : List ℕ) (long : length bytes ≡ 27) (fits : FitsBelow 27 by
   pub header_leads : (rest : List ℕ) → Leads (header_of bytes) [] rest (bytes ++ rest)
   header_leads rest = record { titled = header_of_is; each = tt; split = ap (λ (l : List ℕ). l ++ rest) (sym header_of_spelled) }
 
-pub front_leads : (bytes : List ℕ) (n : ℕ) → n ≡ 27 → 27 ≤ length bytes → FitsBelow (length (take n bytes)) (take n bytes) → Leads (header_of (take n bytes)) [] (drop 27 bytes) bytes
+pub front_leads : (bytes : List ℕ) (n : ℕ) → n ≡ HEADER_BYTES → HEADER_BYTES ≤ length bytes → FitsBelow (length (take n bytes)) (take n bytes) → Leads (header_of (take n bytes)) [] (drop HEADER_BYTES bytes) bytes
 front_leads bytes n is long fits =
-    let whole : length (take n bytes) ≡ 27 = omega (arith, length-take n bytes, is, long) in
-    subst (λ l. Leads (header_of (take n bytes)) [] (drop 27 bytes) l) (ap (λ (k : ℕ). take n bytes ++ drop k bytes) (sym is) ∙ take-append-drop n bytes)
-    (header_leads (take n bytes) whole (subst (λ k. FitsBelow k (take n bytes)) whole fits) (drop 27 bytes))
+    let whole : length (take n bytes) ≡ HEADER_BYTES = omega (arith, length-take n bytes, is, long) in
+    subst (λ l. Leads (header_of (take n bytes)) [] (drop HEADER_BYTES bytes) l) (ap (λ (k : ℕ). take n bytes ++ drop k bytes) (sym is) ∙ take-append-drop n bytes)
+    (header_leads (take n bytes) whole (subst (λ k. FitsBelow k (take n bytes)) whole fits) (drop HEADER_BYTES bytes))
 
 -- ---- an image that is refused in its header
 
@@ -195,14 +196,14 @@ some_header = record { role = Supplier; own = replicate 10 48; peer = replicate 
 some_titled : IsHeader some_header
 some_titled = record { own = record { ten = refl; text = refl }; peer = record { ten = refl; text = refl } }
 
-module _ (image : List ℕ) (place : ℕ) (low : place < 27) (inside : place ≤ length image) (fits : FitsBelow place image) where
+module _ (image : List ℕ) (place : ℕ) (low : place < HEADER_BYTES) (inside : place ≤ length image) (fits : FitsBelow place image) where
   abbrev filled : List ℕ
   filled = take place image ++ drop place (header_bytes some_header)
 
-  filled_length : length filled ≡ 27
+  filled_length : length filled ≡ HEADER_BYTES
   filled_length = omega (arith, length-append (take place image) (drop place (header_bytes some_header)), length-take place image, length-drop place (header_bytes some_header), header_length some_header some_titled, low, inside)
 
-  filled_fits : FitsBelow 27 filled
+  filled_fits : FitsBelow HEADER_BYTES filled
   filled_fits i less = elim (cases_lt i place) [
     | inl before ↦ subst (λ (b : ℕ). header_fits i b ≡ true)
         (sym (get_or_append_left (take place image) (drop place (header_bytes some_header)) 0 i (omega (arith, before, length-take place image, inside)) ∙ get_or-take place image i 0 before)) (fits i before)
@@ -229,7 +230,7 @@ module _ (image : List ℕ) (place : ℕ) (low : place < 27) (inside : place ≤
   pub header_refused : (place ≡ length image) ⊎ ((place < length image) × (header_fits place (get_or image place 0) ≡ false)) → IsRefused image place
   header_refused cause = Stopped (λ at o. none (titled_fits o.header o.entries _ image o.leads)) (λ h es held. none (titled_fits h es _ image held.journal.leads)) (record { inside = inside; before = begins; ends = ends cause })
     where
-      none : (FitsBelow 27 image) × (27 ≤ length image) → ⊥
+      none : (FitsBelow HEADER_BYTES image) × (HEADER_BYTES ≤ length image) → ⊥
       none both = go cause
         where
           go : (place ≡ length image) ⊎ ((place < length image) × (header_fits place (get_or image place 0) ≡ false)) → ⊥

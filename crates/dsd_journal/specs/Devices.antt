@@ -9,6 +9,7 @@ use Rattle.dsd_station.specs.Failures.{failed_in}
 use Rattle.dsd_station.specs.Puts.{Goes}
 use Rattle.dsd_station.specs.Rows.{IsKept, IsRow, Makes, put_calls}
 use Rattle.dsd_station.specs.Told.{Told, Moment, Allows, EachAllows, EachStop, IsSynced, LeavesAt}
+use Rattle.dsd_journal.specs.declared.limits.TheConstants.{FORMATTED_BYTES}
 use Rattle.dsd_journal.specs.declared.opening.OpenFault.{OpenFault}
 use Rattle.dsd_journal.specs.declared.opening.OpenFault.TheVariants.{Station as NoStation}
 use Rattle.dsd_journal.specs.declared.formatting.FormatFault.{FormatFault}
@@ -102,7 +103,7 @@ pub record WritesHeader (header : Header) (result : Result (Unit {0}) Failed) (o
   pub syncs : new.syncs ≤ old.syncs + 1
   pub made : Makes (put_calls 0 (formatted header)) (is_ok result) old new
   pub ok : OnOk result ((new.journal ≡ formatted header) × IsHeader header × IsSynced new × Unfailed old new)
-  pub torn : Torn 0 28 [] new.journal
+  pub torn : Torn 0 FORMATTED_BYTES [] new.journal
 
 -- The record has the question for the size behind it. Where that is 0, and only there, a write of the header and a sync follow.
 pub record AsksAndPuts (header : Header) (went : Bool) (old new : Told) : Type 0 where
@@ -121,7 +122,7 @@ pub record Formats (header : Header) (result : Result (Unit {0}) FormatFault) (o
   pub calls : AsksAndPuts header (is_ok result) old new
   pub ok : OnOk result ((old.journal ≡ []) × (new.journal ≡ formatted header) × Holds header [] new.journal × IsSynced new)
   pub not_empty : (size : ℕ) → result ≡ Err (NotEmpty size) → (size ≡ length old.journal) × (0 < size) × Untouched old new
-  pub station : result ≡ Err Station → Untouched old new ⊎ ((old.journal ≡ []) × Torn 0 28 [] new.journal)
+  pub station : result ≡ Err Station → Untouched old new ⊎ ((old.journal ≡ []) × Torn 0 FORMATTED_BYTES [] new.journal)
   pub unfailed : (result ≡ Err Station) ⊎ Unfailed old new
 
 -- A call that adds these entries behind others: each stop since its start leaves the entries before, or these and all the new ones.

@@ -2,7 +2,7 @@
 use Rattle.std.specs.Prelude.{ℕ, ◌+◌, ◌<◌, ◌≤◌, ◌≡◌, ◌≢◌, List, [], ◌∷◌, ◌++◌, length}
 use Rattle.std.specs.Int.{w32, to_be_bytes}
 use Rattle.dsd_values.specs.declared.limits.TheConstants.{SET_BYTES}
-use Rattle.dsd_journal.specs.declared.limits.TheConstants.{JOURNAL_BYTES}
+use Rattle.dsd_journal.specs.declared.limits.TheConstants.{HEADER_BYTES, JOURNAL_BYTES}
 use Rattle.dsd_journal.specs.declared.entry.EntryKind.{EntryKind}
 use Rattle.dsd_journal.specs.declared.entry.EntryKind.TheVariants.{Signed, Took}
 use Rattle.dsd_journal.specs.declared.entry.Entry.{Entry}
@@ -37,7 +37,7 @@ EachFits (entry ∷ entries) = IsPayloadLength (length entry.payload) × EachFit
 
 -- where the gate behind these entries stands
 abbrev pub gate_place : List Entry → ℕ
-gate_place entries = 27 + length (spelled entries)
+gate_place entries = HEADER_BYTES + length (spelled entries)
 
 -- The bytes are a header, these entries behind open gates, and what is behind them.
 pub record Leads (header : Header) (entries : List Entry) (behind bytes : List ℕ) : Type 0 where

@@ -5,7 +5,7 @@ use Rattle.dsd_values.specs.Reading.{is_no_id_byte}
 use Rattle.dsd_values.specs.declared.role.Role.{Role}
 use Rattle.dsd_values.specs.declared.role.Role.TheVariants.{Supplier, Receiver}
 use Rattle.dsd_values.specs.declared.limits.TheConstants.{SET_BYTES}
-use Rattle.dsd_journal.specs.declared.limits.TheConstants.{JOURNAL_BYTES}
+use Rattle.dsd_journal.specs.declared.limits.TheConstants.{HEADER_BYTES, JOURNAL_BYTES}
 use Rattle.dsd_journal.specs.declared.entry.EntryKind.{EntryKind}
 use Rattle.dsd_journal.specs.declared.entry.EntryKind.TheVariants.{Signed, Took}
 use Rattle.dsd_journal.specs.declared.entry.Entry.{Entry}
@@ -32,7 +32,7 @@ header_of bytes = record { role = role_of_letter (slice_index_or bytes 5 0); own
 
 -- the bytes of which 27 are wanted: they end before that, or have one that may not stand in a header at its place
 pub record IsMistitled (bytes : List ℕ) (place : ℕ) : Type 0 where
-  pub low : place < 27
+  pub low : place < HEADER_BYTES
   pub inside : place ≤ length bytes
   pub before : FitsBelow place bytes
   pub cause : (place ≡ length bytes) ⊎ ((place < length bytes) × (header_fits place (slice_index_or bytes place 0) ≡ false))

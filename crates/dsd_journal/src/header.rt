@@ -1,12 +1,11 @@
 //! How a journal begins.
 
-ghost use Rattle.std.specs.Prelude.{◌≡◌, ◌⊎◌, ◌<◌, ◌≤◌, [], false, length, drop, IfErr, IfOk, MatchOption, slice_index_or};
-ghost use Rattle.dsd_values.specs.Reading.{IsIdText};
+ghost use Rattle.std.specs.Prelude.{◌≡◌, ◌<◌, ◌≤◌, [], false, length, drop, IfErr, IfOk, MatchOption, slice_index_or};
 ghost use Rattle.dsd_journal.specs.Headers.{IsHeader, IsId, formatted, role_letter as letter_of_role};
 ghost use Rattle.dsd_journal.specs.JournalImage.{Leads};
 ghost use Rattle.dsd_journal.specs.Reading.{header_fits, header_of, role_of_letter, FitsBelow, IsMistitled};
 
-use crate::limits::HEADER_BYTES;
+use crate::limits::{FORMATTED_BYTES, HEADER_BYTES};
 use arrayvec::ArrayVec;
 use dsd_values::{CommId, Role};
 
@@ -22,8 +21,8 @@ pub struct Header {
 
 /// Reads the header at the front of bytes, or says where they are none.
 pub(crate) fn read_header(bytes: &[u8]) -> Result<Header, usize>
-    ensures ok { IfOk result (λ header. Leads header [] (drop 27 bytes.now) bytes.now) }
-    ensures long { IfOk result (λ header. 27 ≤ length bytes.now) }
+    ensures ok { IfOk result (λ header. Leads header [] (drop HEADER_BYTES bytes.now) bytes.now) }
+    ensures long { IfOk result (λ header. HEADER_BYTES ≤ length bytes.now) }
     ensures err { IfErr result (λ place. IsMistitled bytes.now place) }
 {
     let front = &bytes[..HEADER_BYTES.min(bytes.len())];
@@ -61,10 +60,10 @@ fn fits(place: usize, byte: u8) -> bool
     }
 }
 
-/// The header of 27 bytes that fit.
+/// The header of a header's bytes, which fit.
 fn header_in(bytes: &[u8]) -> Header
-    requires whole { length bytes.now ≡ 27 }
-    requires fits { FitsBelow 27 bytes.now }
+    requires whole { length bytes.now ≡ HEADER_BYTES }
+    requires fits { FitsBelow HEADER_BYTES bytes.now }
     ensures { result ≡ header_of bytes.now }
 {
     Header {
@@ -102,7 +101,7 @@ fn role_letter(role: Role) -> u8
 }
 
 /// The bytes of a journal without entries.
-pub(crate) fn formatted_bytes(header: &Header) -> ArrayVec<u8, 28>
+pub(crate) fn formatted_bytes(header: &Header) -> ArrayVec<u8, FORMATTED_BYTES>
     ensures items { result.items ≡ formatted header.now }
     ensures titled { IsHeader header.now }
 {

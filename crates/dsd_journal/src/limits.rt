@@ -7,7 +7,10 @@ pub const JOURNAL_BYTES: u64 = 67_108_864;
 pub const MOST_ENTRIES: usize = 9_586_976;
 
 /// How many bytes a header has.
-pub(crate) const HEADER_BYTES: usize = 27;
+pub const HEADER_BYTES: usize = 27;
+
+/// How many bytes a journal without entries has: its header and a closed gate.
+pub const FORMATTED_BYTES: usize = HEADER_BYTES + 1;
 
 /// A gate that is open. Any other byte is a closed one.
 pub(crate) const OPEN_GATE: u8 = 0xa5;

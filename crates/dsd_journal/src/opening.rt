@@ -1,6 +1,6 @@
 //! Opening the journal that an image holds.
 
-ghost use Rattle.std.specs.Prelude.{◌≤◌, ◌≡◌, ◌⊎◌, ℕ, [], length, Err, IfErr, IfOk, IsTrue, true};
+ghost use Rattle.std.specs.Prelude.{◌≤◌, ◌≡◌, ◌⊎◌, ℕ, [], Err, IfErr, IfOk, IsTrue};
 ghost use Rattle.dsd_station.specs.Causes.{Rose};
 ghost use Rattle.dsd_station.specs.Told.{IsSynced, ReadMayStay};
 ghost use Rattle.dsd_journal.specs.Devices.{IsStationFault, Looks, Opens, Unfailed};

@@ -1,6 +1,6 @@
 //! Reading an image piece by piece.
 
-ghost use Rattle.std.specs.Prelude.{◌≡◌, ◌≢◌, ◌⊎◌, ◌+◌, ◌<◌, ◌≤◌, ◌^◌, ℕ, Err, [], drop, length, IfOk, vec_len};
+ghost use Rattle.std.specs.Prelude.{◌≡◌, ◌≢◌, ◌⊎◌, ◌+◌, ◌<◌, ◌≤◌, ℕ, Err, [], drop, length, IfOk, vec_len};
 ghost use Rattle.dsd_station.specs.Causes.{Rose};
 ghost use Rattle.dsd_journal.specs.Devices.{IsStationFault, Looks};
 ghost use Rattle.dsd_journal.specs.Pieces.{IsSoFar, ReadsOn};
@@ -53,7 +53,7 @@ pub(crate) fn read_front<T: Station>(
     ensures piece { length piece.new ≡ PIECE_BYTES }
     ensures len { IfOk result (λ at. vec_len bytes.new ≡ at) }
     ensures bytes { T.tells → IfOk result (λ at. IsSoFar (T.told station.old).journal at bytes.new.items) }
-    ensures end { T.tells → IfOk result (λ at. at < 27 → at ≡ length (T.told station.old).journal) }
+    ensures end { T.tells → IfOk result (λ at. at < HEADER_BYTES → at ≡ length (T.told station.old).journal) }
     ensures told { T.tells → Looks (IsStationFault result) (T.told station.old) (T.told station.new) }
 {
     let mut at = 0;

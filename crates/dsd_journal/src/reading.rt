@@ -1,6 +1,6 @@
 //! Reading the journal that an image holds.
 
-ghost use Rattle.std.specs.Prelude.{◌≡◌, ◌≢◌, ◌⊎◌, ◌+◌, ◌<◌, ◌≤◌, ℕ, Err, false, true, [], length, IfErr, IfOk, OnOk, vec_len};
+ghost use Rattle.std.specs.Prelude.{◌≡◌, ◌≢◌, ◌⊎◌, ◌+◌, ◌<◌, ◌≤◌, ℕ, Err, false, true, length, IfErr, IfOk, OnOk, vec_len};
 ghost use Rattle.dsd_station.specs.Causes.{Rose};
 ghost use Rattle.dsd_journal.specs.Devices.{IsStationFault, Looks};
 ghost use Rattle.dsd_journal.specs.FirstBad.{IsRefused};

@@ -1,6 +1,6 @@
 //! Taking entries from the front of bytes.
 
-ghost use Rattle.std.specs.Prelude.{◌≡◌, ◌≢◌, ◌⊎◌, ◌+◌, ◌<◌, ◌≤◌, ℕ, [], ◌∷◌, ◌++◌, Err, length, IfOk, IfSome, MatchOption, OnOk};
+ghost use Rattle.std.specs.Prelude.{◌≡◌, ◌≢◌, ◌⊎◌, ◌+◌, ◌<◌, ℕ, [], ◌∷◌, ◌++◌, Err, length, IfOk, MatchOption, OnOk};
 ghost use Rattle.dsd_journal.specs.JournalImage.{gate_place, open_gate, IsPayloadLength};
 ghost use Rattle.dsd_journal.specs.Reading.{IsShut, IsWaiting, MeetsBad, Takes};
 

@@ -1,4 +1,5 @@
 use Rattle.std.proofs.Common.{◌≡◌, ◌≤◌, ◌-◌, length, vec_len}
+use Rattle.dsd_journal.specs.declared.limits.TheConstants.{HEADER_BYTES}
 use Rattle.dsd_journal.specs.declared.pieces.TheConstants.{PIECE_BYTES}
 use Rattle.dsd_journal.specs.Devices.{Looks}
 use Rattle.dsd_journal.specs.Pieces.{IsSoFar}
@@ -15,4 +16,4 @@ invariant-loop-at g l = record {
 }
 
 abbrev pub decreases-loop-at : goal.decreases-loop-at
-decreases-loop-at g l = 27 - l.at
+decreases-loop-at g l = HEADER_BYTES - l.at

@@ -1,6 +1,6 @@
-use Rattle.std.proofs.Common.{◌≡◌, ◌<◌, ◌≤◌, ◌+◌, ◌-◌, ◌++◌, ℕ, List, length, ap, subst, sym, ◌∙◌, arith}
+use Rattle.std.proofs.Common.{◌≡◌, ◌<◌, ◌+◌, ◌-◌, ◌++◌, ℕ, List, length, ap, subst, sym, ◌∙◌, arith}
 use Rattle.dsd_journal.specs.declared.entry.Entry.{Entry}
-use Rattle.dsd_journal.specs.declared.limits.TheConstants.{JOURNAL_BYTES}
+use Rattle.dsd_journal.specs.declared.limits.TheConstants.{HEADER_BYTES, JOURNAL_BYTES}
 use Rattle.dsd_journal.specs.JournalImage.{gate_place, spelled, EachFits}
 use Rattle.dsd_journal.specs.Kept.{places_from, Shelf}
 use Rattle.dsd_journal.proofs.Places.{gate_append, places_append}
@@ -28,9 +28,9 @@ invariant_of-self c =
       places = c.add_places-self-inside.ensures.items
           ∙ ap (λ (l : List Entry). c.self.inside.places.items ++ places_from c.self.inside.gate l) lent
           ∙ ap (λ (l : List ℕ). l ++ places_from c.self.inside.gate more) is.places
-          ∙ ap (λ (n : ℕ). places_from 27 list ++ places_from n more) is.gate
-          ∙ sym (places_append 27 list more)
-          ∙ ap (places_from 27) (sym all);
+          ∙ ap (λ (n : ℕ). places_from HEADER_BYTES list ++ places_from n more) is.gate
+          ∙ sym (places_append HEADER_BYTES list more)
+          ∙ ap (places_from HEADER_BYTES) (sym all);
       gate = gate ∙ ap gate_place (sym all);
       below = omega (arith, gate, near);
       each = subst EachFits (sym all) (each_append list more is.each c.requires.each);

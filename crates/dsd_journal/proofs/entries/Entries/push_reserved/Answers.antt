@@ -1,5 +1,5 @@
 use Rattle.std.proofs.Common.{◌<◌, ℕ, List, ap, subst, sym, ◌∙◌, length, arith, ◌+◌, ◌++◌, [], ◌∷◌}
-use Rattle.dsd_journal.specs.declared.limits.TheConstants.{JOURNAL_BYTES}
+use Rattle.dsd_journal.specs.declared.limits.TheConstants.{HEADER_BYTES, JOURNAL_BYTES}
 use Rattle.dsd_journal.specs.JournalImage.{EachFits, gate_place}
 use Rattle.dsd_journal.specs.Kept.{Shelf, places_from}
 use Rattle.dsd_journal.proofs.Places.{places_append}
@@ -16,7 +16,7 @@ invariant_of-self c =
     let length_is = ap length c.as_slice.ensures in
     record {
       places = c.push_reserved.ensures.items ∙ ap (λ (n : ℕ). c.self.inside.places.items ++ (n + 1) ∷ []) is.gate ∙ ap (λ (l : List ℕ). l ++ (gate_place list + 1) ∷ []) is.places
-          ∙ sym (places_append 27 list (c.args.entry ∷ [])) ∙ ap (places_from 27) (sym pushed);
+          ∙ sym (places_append HEADER_BYTES list (c.args.entry ∷ [])) ∙ ap (places_from HEADER_BYTES) (sym pushed);
       gate = omega (arith, is.gate, length_is, gate_push list c.args.entry, ap gate_place pushed);
       below = omega (arith, is.gate, length_is, near);
       each = subst EachFits (sym pushed) (each_push list c.args.entry is.each c.requires.sized);

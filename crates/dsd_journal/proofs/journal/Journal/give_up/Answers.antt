@@ -1,4 +1,4 @@
-use Rattle.std.proofs.Common.{◌≡◌, ◌<◌, ◌++◌, [], length, ap, subst, sym, ◌∙◌, arith, List}
+use Rattle.std.proofs.Common.{◌<◌, ◌++◌, [], ap, subst, sym, ◌∙◌, arith, List}
 use Rattle.dsd_journal.specs.declared.entry.Entry.{Entry}
 use Rattle.dsd_journal.specs.declared.limits.TheConstants.{JOURNAL_BYTES}
 use Rattle.dsd_journal.specs.JournalImage.{gate_place, spelled, EachFits}
