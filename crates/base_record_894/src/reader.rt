@@ -69,10 +69,21 @@ impl Reader {
             (λ _. self.new ≡ kept_by self.old segment.now kind self.old.course.phase self.old.course.count self.old.course.check) }
     {
         match kind {
-            Kind::Head => self.head = Some(at(segment, read_head(self.alloc, segment))?),
-            Kind::Totals => return self.keep_totals(segment),
-            kind => return self.course.keep(kind, segment),
+            Kind::Head => self.keep_head(segment),
+            Kind::Totals => self.keep_totals(segment),
+            kind => self.course.keep(kind, segment),
         }
+    }
+
+    /// Keeps the head.
+    // Not inlined, as it makes more room ready than all other kinds together.
+    #[inline(never)]
+    #[tactic(auto, unfolding(crate::specs::Said::kept_by, segments::specs::SoFar::kept))]
+    fn keep_head(&mut self, segment: &Segment<'_>) -> Result<(), SetFault>
+        ensures { Says result segment.now.start (own_reason self.old segment.now kinds.Head)
+            (λ _. self.new ≡ kept_by self.old segment.now kinds.Head self.old.course.phase self.old.course.count self.old.course.check) }
+    {
+        self.head = Some(at(segment, read_head(self.alloc, segment))?);
         Ok(())
     }
 

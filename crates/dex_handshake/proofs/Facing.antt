@@ -1,9 +1,9 @@
 -- Two ends face to face, in a turn: the one that sends it and the one that hears it, with what may be in flight.
-use Rattle.std.specs.Prelude.{◌≡◌, ◌⊎◌, ℕ, ◌+◌, Bool, true, false, if◌then◌else◌, List, [], ◌∷◌, ◌++◌, Option, Some, None, ⊤}
-use Rattle.dex_line.specs.FrameShapes.{FrameShape, Enq, Ack0, Ack1, Nak, Eot, Header, Block, Damaged, Bad}
+use Rattle.std.specs.Prelude.{◌≡◌, ◌⊎◌, ℕ, ◌+◌, Bool, true, false, List, [], ◌∷◌, ◌++◌, Option, Some, None, ⊤}
+use Rattle.dex_line.specs.FrameShapes.{FrameShape, Enq, Ack0, Nak, Eot, Header, Block, Damaged, Bad}
 use Rattle.dex_handshake.specs.LineLaw.{AreFit, IsFront}
 use Rattle.dex_handshake.specs.LineTable.{StageName, FirstStage, SecondStage, TextStage, Common, Sending, Taking, Line, Ready, Bidding, Awaiting, SentAll, InText, Finished, Ended, reply_of, nothing_taken, next_stage, text_heard, hears, LineStep}
-use Rattle.dex_handshake.specs.LineRun.{load_of, Turns, LineEnd, EndStep, ended_step, steps}
+use Rattle.dex_handshake.specs.LineRun.{load_of, Turns, LineEnd, ended_step, steps}
 use Rattle.dex_handshake.specs.declared.session_end.SessionEnd.{SessionEnd}
 
 -- ---- how the two stand

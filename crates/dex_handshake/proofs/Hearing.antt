@@ -1,18 +1,18 @@
 -- What is in flight is delivered: how the two then stand.
-use Rattle.std.specs.Prelude.{◌≡◌, ◌⊎◌, ℕ, ◌+◌, nat_lt, ◌==◌, Bool, true, false, if◌then◌else◌, List, [], ◌∷◌, ◌++◌, length, map, Option, Some, None, ⊤}
-use Rattle.std.proofs.Common.{refl, sym, ◌∙◌, ap, subst, inl, inr, arith, append-nil, append_assoc}
+use Rattle.std.specs.Prelude.{◌≡◌, ℕ, ◌+◌, nat_lt, ◌==◌, Bool, true, false, if◌then◌else◌, List, [], ◌∷◌, ◌++◌, length, map, Option, Some, None}
+use Rattle.std.proofs.Common.{refl, sym, ◌∙◌, ap, subst, inl, inr, append-nil, append_assoc}
 use Rattle.std.specs.List.{concat}
-use Rattle.dex_line.specs.BlockCut.{blocks_of, marked, MarksLast, CutOf}
+use Rattle.dex_line.specs.BlockCut.{blocks_of, MarksLast}
 use Rattle.dex_line.specs.TextUnits.{UnitsFit}
 use Rattle.dex_line.specs.FrameShapes.{FrameShape, Enq, Ack0, Ack1, Nak, Eot, Header, Block, Damaged, Bad}
 use Rattle.dex_line.proofs.Exists.{blocks_cut}
 use Rattle.dex_line.proofs.Fewest.{blocks_joined}
-use Rattle.dex_handshake.specs.LineTable.{StageName, FirstStage, SecondStage, TextStage, Partner, Common, Sending, Taking, Line, Ready, Bidding, Awaiting, SentAll, InText, Finished, Ended, reply_of, is_odd, nothing_taken, next_stage, text_heard, last_reply, read_header, with_block, LineStep, says, says_nothing, ends, no_quiets, next_frame, again, bids, second_header, takes_header, takes_block, hears_block, hears_eot, in_text_hears, awaiting_hears, hears, says_eot}
-use Rattle.dex_handshake.specs.LineLaw.{AreFit, IsFront}
-use Rattle.dex_handshake.specs.LineRun.{load_of, frame_of_block, Turns, LineEnd, EndStep, ended_step, steps, with_turn, with_text}
+use Rattle.dex_handshake.specs.LineTable.{StageName, FirstStage, SecondStage, TextStage, Partner, Common, Sending, Taking, Line, Ready, Bidding, Awaiting, SentAll, InText, Finished, Ended, reply_of, is_odd, nothing_taken, next_stage, last_reply, read_header, with_block, says, says_nothing, ends, no_quiets, next_frame, again, second_header, takes_header, takes_block, hears_block, hears_eot, in_text_hears, awaiting_hears, says_eot}
+use Rattle.dex_handshake.specs.LineLaw.{AreFit}
+use Rattle.dex_handshake.specs.LineRun.{load_of, frame_of_block, Turns, LineEnd, with_turn, with_text}
 use Rattle.dex_handshake.specs.declared.session_end.SessionEnd.{SessionEnd}
 use Rattle.dex_handshake.specs.declared.session_end.SessionEnd.TheVariants.{TextLimit, TriesSpent}
-use Rattle.dex_handshake.proofs.Facing.{Stand, AtStart, Bids, Bid, Open, Done, Closed, Left, Rests, Gone, Way, Still, Forth, Back, turned, forth, back, Flying, Nothing, Enquiry, Carried, Closing, Reply, Refusal, Reminder, NoiseForth, NoiseBack, Stray, noise, way_of, Flies, FliesBids, FliesBid, FliesOpen, FliesDone, FliesClosed, FliesRests, FliesGone, IsMarked, Leaves, IsHeaderLoad, IsBid, IsOpen, IsDone, IsClosed, NoTurns, Owes, Owed, IsGiven, Past, TookLast, LastOf, InTurn, Facts, Holds, GoesOn, SenderHears, HearerHears, Delivered, sender_line, hearer_line}
+use Rattle.dex_handshake.proofs.Facing.{Stand, AtStart, Bids, Bid, Open, Done, Closed, Left, Rests, Gone, Way, Still, Forth, Back, back, Flying, Nothing, Enquiry, Carried, Closing, Reply, Refusal, Reminder, NoiseForth, NoiseBack, Stray, noise, way_of, Flies, FliesBids, FliesBid, FliesOpen, FliesDone, FliesClosed, FliesRests, FliesGone, Leaves, IsHeaderLoad, IsBid, IsOpen, IsDone, IsClosed, Owes, Owed, Past, TookLast, LastOf, InTurn, Facts, Holds, GoesOn, SenderHears, HearerHears, Delivered, sender_line, hearer_line}
 use Rattle.dex_handshake.proofs.Turning.{if_both, if_yes, if_no, even_next, odd_next, not_below, below_next, below_one, eot_said, eot_heard, closed_bid, open_bid, closed_done, open_done, past_of, swap_past, owes_of, took_last}
 use Rattle.dex_handshake.specs.declared.session_end.TheConstants.{MOST_TRIES}
 use Rattle.dxs_envelope.specs.declared.outgoing.TheConstants.{TRANSMISSION_BYTES}

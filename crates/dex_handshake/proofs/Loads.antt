@@ -1,6 +1,6 @@
 -- Loads: the frame that goes out, and the place behind a block.
-use Rattle.std.specs.Prelude.{◌≡◌, ◌≢◌, ℕ, ◌+◌, ◌==◌, Bool, List, [], ◌∷◌, ◌++◌, length, take, drop, map, Option, Some, None}
-use Rattle.std.proofs.Common.{refl, sym, ◌∙◌, ap, subst, inl, inr, arith, drop-drop, length-append, length-drop, true, false, ◌≤◌, ◌<◌, suc, if◌then◌else◌}
+use Rattle.std.specs.Prelude.{◌≡◌, ℕ, ◌+◌, ◌==◌, Bool, List, [], ◌∷◌, ◌++◌, length, take, drop, map, Some, None}
+use Rattle.std.proofs.Common.{refl, sym, ◌∙◌, ap, subst, arith, drop-drop, length-append, length-drop, true, false, ◌≤◌, suc, if◌then◌else◌}
 use Rattle.std.proofs.Math.Seq.{drop-append_seam, take-append_seam}
 use Rattle.std.proofs.lemmas.Grind.{common_steps}
 use Rattle.std.proofs.lemmas.Bool.Decides.{nat_tests}
@@ -9,11 +9,11 @@ use Rattle.dex_line.specs.FrameShapes.{FrameShape, Block}
 use Rattle.dex_line.specs.TextUnits.{UnitsFit}
 use Rattle.dxs_envelope.specs.Sending.{IsOutgoing}
 use Rattle.dxs_envelope.specs.declared.outgoing.TheConstants.{TRANSMISSION_BYTES}
-use Rattle.dex_handshake.specs.LineTable.{Common, LineStep, says, says_eot, next_frame, unplugs, Line, Ready, Bidding, Awaiting, SentAll, InText, Finished, Ended}
+use Rattle.dex_handshake.specs.LineTable.{Common, says, says_eot, next_frame, unplugs, Line, Ready, Bidding, Awaiting, SentAll, InText, Finished, Ended}
 use Rattle.dex_handshake.specs.LineRun.{load_of, frame_of_block, end_of}
 use Rattle.dex_handshake.specs.declared.session_end.SessionEnd.{SessionEnd}
 use Rattle.dex_handshake.specs.declared.session_end.SessionEnd.TheVariants.{Unplugged}
-use Rattle.dex_handshake.specs.StateSeen.{present_frame, behind_first, first_or_bad, from_place, sending_seen}
+use Rattle.dex_handshake.specs.StateSeen.{present_frame, first_or_bad, from_place, sending_seen}
 
 pub next_some : (own : Common) (done : ℕ) (left : List FrameShape) (frame : FrameShape) → Some frame ≡ present_frame left
     → says frame (Awaiting own (sending_seen left done 1 false)) ≡ next_frame own done left

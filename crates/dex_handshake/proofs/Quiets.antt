@@ -1,14 +1,14 @@
 -- An end hears a Quiet, or what is in flight is lost or damaged: how the two then stand.
-use Rattle.std.specs.Prelude.{◌≡◌, ◌⊎◌, ℕ, ◌+◌, ◌%◌, ◌==◌, nat_lt, Bool, true, false, if◌then◌else◌, List, [], ◌∷◌, ◌++◌, Option, Some, None, ⊤}
+use Rattle.std.specs.Prelude.{◌≡◌, ℕ, ◌+◌, ◌%◌, ◌==◌, nat_lt, Bool, true, List}
 use Rattle.std.proofs.Common.{refl, sym, ◌∙◌, ap, subst, inl, inr}
-use Rattle.dex_line.specs.FrameShapes.{FrameShape, Enq, Ack0, Ack1, Nak, Eot, Header, Block, Damaged, Bad}
-use Rattle.dex_handshake.specs.LineTable.{StageName, FirstStage, SecondStage, TextStage, Common, Sending, Taking, Line, Ready, Bidding, Awaiting, SentAll, InText, Finished, Ended, nothing_taken, next_stage, LineStep, says, says_nothing, ends, one_quiet, unless_silent, eot_again, quiets}
-use Rattle.dex_handshake.specs.LineLaw.{AreFit, IsFront}
-use Rattle.dex_handshake.specs.LineRun.{load_of, Turns, LineEnd}
+use Rattle.dex_line.specs.FrameShapes.{Enq, Eot}
+use Rattle.dex_handshake.specs.LineTable.{FirstStage, Common, Line, Ready, Bidding, Awaiting, SentAll, InText, Finished, Ended, nothing_taken, next_stage, LineStep, says, says_nothing, ends, one_quiet, unless_silent, eot_again, quiets}
+use Rattle.dex_handshake.specs.LineLaw.{AreFit}
+use Rattle.dex_handshake.specs.LineRun.{Turns, LineEnd}
 use Rattle.dex_handshake.specs.declared.session_end.SessionEnd.{SessionEnd}
 use Rattle.dex_handshake.specs.declared.session_end.SessionEnd.TheVariants.{Silent}
-use Rattle.dex_handshake.proofs.Facing.{Stand, AtStart, Bids, Bid, Open, Done, Closed, Left, Rests, Gone, Way, Still, Forth, Back, turned, forth, back, Flying, Nothing, Enquiry, Carried, Closing, Reply, Refusal, Reminder, NoiseForth, NoiseBack, Stray, noise, way_of, Flies, FliesBids, FliesBid, FliesOpen, FliesDone, FliesClosed, FliesRests, FliesGone, IsOpen, IsDone, IsClosed, Owed, Past, TookLast, LastOf, InTurn, Facts, Holds, GoesOn, SenderWaits, HearerWaits, sender_line, hearer_line}
-use Rattle.dex_handshake.proofs.Turning.{if_both, past_of, swap_past, took_last}
+use Rattle.dex_handshake.proofs.Facing.{Stand, AtStart, Bids, Bid, Open, Done, Closed, Left, Rests, Gone, Way, Still, Forth, Back, Flying, Nothing, Enquiry, Carried, Closing, Reply, Refusal, Reminder, NoiseForth, NoiseBack, Stray, noise, way_of, Flies, FliesBids, FliesBid, FliesOpen, FliesDone, FliesClosed, FliesRests, FliesGone, Past, LastOf, Facts, Holds, SenderWaits, HearerWaits, sender_line, hearer_line}
+use Rattle.dex_handshake.proofs.Turning.{if_both, past_of, took_last}
 use Rattle.dex_handshake.proofs.Hearing.{end_at, gone, hearer_gone, stray}
 use Rattle.dex_handshake.specs.declared.session_end.TheConstants.{MOST_QUIETS}
 

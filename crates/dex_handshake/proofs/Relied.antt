@@ -1,18 +1,18 @@
 -- The law of the line, from the invariant.
-use Rattle.std.specs.Prelude.{◌≡◌, ◌⊎◌, ℕ, ◌+◌, nat_lt, Bool, true, false, List, [], ◌∷◌, ◌++◌, Option, Some, None, ⊤}
+use Rattle.std.specs.Prelude.{◌≡◌, ◌⊎◌, ℕ, ◌+◌, nat_lt, true, false, List, [], ◌∷◌, ◌++◌, Option, Some, None}
 use Rattle.std.specs.List.{fold}
 use Rattle.std.proofs.Common.{refl, sym, ◌∙◌, ap, subst, inl, inr}
 use Rattle.std.proofs.lemmas.List.Sums.{fold-append}
 use Rattle.dsd_values.specs.declared.role.Role.{Role}
 use Rattle.dsd_values.specs.declared.role.Role.TheVariants.{Supplier, Receiver}
-use Rattle.dex_line.specs.FrameShapes.{FrameShape, Enq, Ack0, Ack1, Nak, Eot, Header, Block, Damaged, Bad}
-use Rattle.dex_handshake.specs.LineTable.{StageName, FirstStage, SecondStage, TextStage, Common, Sending, Line, Ready, Bidding, Awaiting, SentAll, InText, Finished, Ended, LineStep, says, says_nothing, ends, is_odd, reply_of, next_stage, no_quiets, one_quiet, next_frame, again, hears, quiets}
+use Rattle.dex_line.specs.FrameShapes.{FrameShape, Enq, Ack0, Ack1, Nak, Eot, Damaged, Bad}
+use Rattle.dex_handshake.specs.LineTable.{StageName, FirstStage, SecondStage, TextStage, Common, Sending, Line, Ready, Bidding, Awaiting, SentAll, InText, Finished, Ended, LineStep, says, ends, is_odd, reply_of, next_stage, no_quiets, one_quiet, next_frame, again, hears, quiets}
 use Rattle.dex_handshake.specs.LineRun.{load_of, Turns, LineEnd}
 use Rattle.dex_handshake.specs.Wire.{Wire, WireEvent, Flight, wire_of}
-use Rattle.dex_handshake.specs.LineLaw.{AreFit, IsFront, IsLast, HandsOn, HasSaidEot, IsTaken, IsAskedNext, IsHandedOn, StaysAt}
+use Rattle.dex_handshake.specs.LineLaw.{AreFit, IsLast, HandsOn, HasSaidEot, IsTaken, IsAskedNext, IsHandedOn, StaysAt}
 use Rattle.dex_handshake.specs.declared.session_end.SessionEnd.{SessionEnd}
 use Rattle.dex_handshake.specs.declared.session_end.SessionEnd.TheVariants.{Silent, TriesSpent}
-use Rattle.dex_handshake.proofs.Facing.{Stand, AtStart, Bids, Bid, Open, Done, Closed, Left, Rests, Gone, Way, Still, Forth, Back, turned, Flying, Nothing, Enquiry, Carried, Closing, Reply, Refusal, Reminder, NoiseForth, NoiseBack, Stray, noise, way_of, Flies, FliesClosed, FliesRests, FliesGone, Owed, Past, TookLast, LastOf, Facts, Holds, GoesOn, sender_line, hearer_line}
+use Rattle.dex_handshake.proofs.Facing.{Stand, AtStart, Bids, Bid, Open, Done, Closed, Left, Rests, Gone, Way, Still, Forth, Back, turned, Flying, Nothing, Closing, Refusal, NoiseForth, NoiseBack, Stray, noise, way_of, Flies, FliesClosed, FliesRests, FliesGone, Owed, Past, TookLast, LastOf, Facts, Holds, GoesOn, sender_line, hearer_line}
 use Rattle.dex_handshake.proofs.Turning.{if_both, if_yes, if_no, past_of, took_last}
 use Rattle.dex_handshake.proofs.Wires.{Stands, flight_of, stands}
 use Rattle.dex_handshake.specs.declared.session_end.TheConstants.{MOST_TRIES, MOST_QUIETS}

@@ -1,7 +1,7 @@
 -- What a line says can be spelled, and is its own or of its load, from the start on.
-use Rattle.std.specs.Prelude.{◌≡◌, ◌⊎◌, ℕ, ◌+◌, ◌<◌, ◌≤◌, ◌&&◌, if◌then◌else◌, Bool, true, false, codes, List, [], ◌∷◌, ◌++◌, length, map, position, Contains, None}
+use Rattle.std.specs.Prelude.{◌≡◌, ℕ, ◌+◌, ◌&&◌, if◌then◌else◌, Bool, true, false, codes, List, [], ◌∷◌, ◌++◌, length, map, position, Contains, None}
 use Rattle.std.specs.List.{list_all}
-use Rattle.std.proofs.Common.{refl, sym, ◌∙◌, ap, inl, inr, arith, length-append}
+use Rattle.std.proofs.Common.{refl, ◌∙◌, ap, inl, inr, arith, length-append}
 use Rattle.std.proofs.lemmas.List.Folds.{list_all-append}
 use Rattle.std.proofs.lemmas.List.Elements.{Contains-append_right}
 use Rattle.std.proofs.lemmas.Bool.Decides.{nat_tests}
@@ -18,7 +18,7 @@ use Rattle.dex_line.specs.declared.frame.Opened.TheVariants as opens
 use Rattle.dex_line.proofs.BlockTexts.{EachText, each_text}
 use Rattle.dex_line.proofs.Exists.{blocks_cut}
 use Rattle.dex_handshake.specs.LineRun.{load_of, frame_of_block}
-use Rattle.dex_handshake.specs.LineTable.{Line, started}
+use Rattle.dex_handshake.specs.LineTable.{started}
 use Rattle.dex_handshake.specs.Sound.{AnyText, AreSaid, IsOwnFrame, IsSoundStep}
 use Rattle.dex_handshake.proofs.SoundTable.{GoesOn, MaySay}
 

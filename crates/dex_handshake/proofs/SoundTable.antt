@@ -2,8 +2,8 @@
 use Rattle.std.proofs.Common.{◌≡◌, ℕ, Bool, true, false, List, [], ◌∷◌, ◌++◌, Option, Some, None, subst, sym}
 use Rattle.std.specs.Prelude.{◌+◌, ◌==◌, ◌&&◌, ◌%◌, ⊤, codes, if◌then◌else◌, length, nat_lt}
 use Rattle.dex_line.specs.FrameShapes.{FrameShape, Enq, Ack0, Ack1, Nak, Eot, Header, Block, Damaged, Bad}
-use Rattle.dex_handshake.specs.LineTable.{Common, Line, LineStep, Partner, Sending, StageName, Taking, FirstStage, SecondStage, TextStage, Ready, Bidding, Awaiting, SentAll, InText, Finished, Ended, again, awaiting_hears, bidding_hears, ends, eot_again, first_over, gives, hears, hears_block, hears_eot, in_text_hears, is_odd, last_reply, named_over, next_frame, no_quiets, one_quiet, quiets, read_header, ready_hears, refused_or, reply_of, same_id, says, says_eot, second_header, second_over, sent_all_hears, says_nothing, takes_block, takes_header, text_heard, text_over, unless_silent, with_block}
-use Rattle.dex_handshake.specs.Sound.{AreSaid, IsSaid, IsSound, IsSoundStep}
+use Rattle.dex_handshake.specs.LineTable.{Common, Line, LineStep, Partner, Sending, StageName, Taking, FirstStage, SecondStage, TextStage, Ready, Bidding, Awaiting, SentAll, InText, Finished, Ended, again, awaiting_hears, bidding_hears, ends, eot_again, first_over, gives, hears, hears_block, hears_eot, in_text_hears, is_odd, last_reply, next_frame, no_quiets, one_quiet, quiets, read_header, ready_hears, refused_or, reply_of, same_id, says, says_eot, second_header, second_over, sent_all_hears, says_nothing, takes_block, takes_header, text_heard, text_over, unless_silent, with_block}
+use Rattle.dex_handshake.specs.Sound.{AreSaid, IsSound, IsSoundStep}
 use Rattle.dex_handshake.specs.declared.session_end.SessionEnd.TheVariants.{Complete, PartnerRefused, Silent, TextLimit, TriesSpent, WrongPartner}
 use Rattle.dxs_envelope.specs.declared.outgoing.TheConstants.{TRANSMISSION_BYTES}
 use Rattle.dex_handshake.specs.declared.session_end.TheConstants.{MOST_QUIETS, MOST_TRIES}

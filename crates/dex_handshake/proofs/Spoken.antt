@@ -1,10 +1,10 @@
 -- A line that begins to await the reply of a block says that block.
-use Rattle.std.specs.Prelude.{◌≡◌, ◌⊎◌, ℕ, ◌+◌, ◌%◌, ◌==◌, ◌&&◌, nat_lt, if◌then◌else◌, Bool, true, false, List, [], ◌∷◌, ◌++◌, length, Option, Some, None}
-use Rattle.std.proofs.Common.{refl, sym, ◌∙◌, ap, subst, inl, inr}
+use Rattle.std.specs.Prelude.{◌≡◌, ℕ, ◌+◌, ◌==◌, ◌&&◌, nat_lt, Bool, true, false, List, [], ◌∷◌, length, Option, Some, None}
+use Rattle.std.proofs.Common.{refl, ap, inl, inr}
 use Rattle.dex_line.specs.FrameShapes.{FrameShape, Enq, Ack0, Ack1, Nak, Eot, Header, Block, Damaged, Bad}
-use Rattle.dex_handshake.specs.LineTable.{StageName, FirstStage, SecondStage, TextStage, Partner, Common, Sending, Taking, Line, Ready, Bidding, Awaiting, SentAll, InText, Finished, Ended, LineStep, says, says_nothing, ends, is_odd, same_id, no_quiets, next_frame, again, says_eot, takes_header, takes_block, hears_block, hears_eot, first_over, second_over, named_over, text_over, read_header, reply_of, last_reply, with_block, text_heard, in_text_hears, hears}
-use Rattle.dex_handshake.specs.LineLaw.{StaysAt, IsSpokenFirst}
-use Rattle.dex_handshake.specs.declared.session_end.SessionEnd.TheVariants.{Complete, TextLimit, TriesSpent, WrongPartner, PartnerRefused}
+use Rattle.dex_handshake.specs.LineTable.{StageName, FirstStage, SecondStage, TextStage, Partner, Common, Sending, Taking, Line, Ready, Bidding, Awaiting, SentAll, InText, Finished, Ended, LineStep, says, says_nothing, ends, is_odd, same_id, no_quiets, next_frame, again, takes_header, takes_block, hears_block, hears_eot, first_over, second_over, read_header, text_heard, in_text_hears, hears}
+use Rattle.dex_handshake.specs.LineLaw.{IsSpokenFirst}
+use Rattle.dex_handshake.specs.declared.session_end.SessionEnd.TheVariants.{Complete, TriesSpent, WrongPartner, PartnerRefused}
 use Rattle.dex_handshake.proofs.Turning.{if_both, eot_said}
 use Rattle.dex_handshake.specs.declared.session_end.TheConstants.{MOST_TRIES}
 use Rattle.dxs_envelope.specs.declared.outgoing.TheConstants.{TRANSMISSION_BYTES}

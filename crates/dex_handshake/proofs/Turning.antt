@@ -1,14 +1,13 @@
 -- What an end's step can be, and what the two then stand in: lemmas that the events share.
-use Rattle.std.specs.Prelude.{◌≡◌, ◌⊎◌, ℕ, ◌+◌, ◌%◌, ◌==◌, nat_lt, Bool, true, false, ◌&&◌, if◌then◌else◌, List, [], ◌∷◌, ◌++◌, Option, Some, None, ⊤}
-use Rattle.std.proofs.Common.{refl, sym, ◌∙◌, ap, subst, inl, inr, arith, append-nil, append_assoc}
+use Rattle.std.specs.Prelude.{◌≡◌, ℕ, ◌+◌, ◌==◌, nat_lt, Bool, true, false, ◌&&◌, if◌then◌else◌, List, [], ◌∷◌, ◌++◌, Option, Some, None}
+use Rattle.std.proofs.Common.{refl, sym, ◌∙◌, ap, inl, inr, arith, append-nil}
 use Rattle.std.proofs.lemmas.Bool.Decides.{nat_tests}
-use Rattle.dex_line.specs.FrameShapes.{FrameShape, Enq, Ack0, Ack1, Nak, Eot, Header, Block, Damaged, Bad}
-use Rattle.dex_handshake.specs.LineTable.{StageName, FirstStage, SecondStage, TextStage, Partner, Common, Sending, Taking, Line, Ready, Bidding, Awaiting, SentAll, InText, Finished, Ended, reply_of, is_odd, same_id, nothing_taken, next_stage, text_heard, LineStep, says, says_nothing, ends, says_eot, refused_or, hears_eot, first_over, second_over, text_over, bids, second_header}
-use Rattle.dex_handshake.specs.LineLaw.{AreFit, IsFront}
-use Rattle.dex_handshake.specs.LineRun.{load_of, Turns, LineEnd, EndStep, ended_step, steps}
+use Rattle.dex_line.specs.FrameShapes.{FrameShape, Eot}
+use Rattle.dex_handshake.specs.LineTable.{StageName, FirstStage, SecondStage, TextStage, Partner, Common, Taking, SentAll, InText, Finished, Ended, is_odd, same_id, nothing_taken, next_stage, text_heard, LineStep, says, says_nothing, ends, says_eot, refused_or, hears_eot, first_over, second_over, bids, second_header}
+use Rattle.dex_handshake.specs.LineRun.{Turns}
 use Rattle.dex_handshake.specs.declared.session_end.SessionEnd.{SessionEnd}
 use Rattle.dex_handshake.specs.declared.session_end.SessionEnd.TheVariants.{Complete, WrongPartner, PartnerRefused}
-use Rattle.dex_handshake.proofs.Facing.{Stand, AtStart, Bids, Bid, Open, Done, Closed, Left, Rests, Gone, Way, Still, Forth, Back, turned, forth, back, Flying, Nothing, Enquiry, Carried, Closing, Reply, Refusal, Reminder, NoiseForth, NoiseBack, Stray, way_of, FliesGone, IsMarked, Leaves, IsHeaderLoad, IsBid, IsOpen, IsDone, IsClosed, NoTurns, Owes, Owed, IsGiven, Past, TookLast, LastOf, InTurn, Facts, Holds, GoesOn, SenderHears, HearerHears}
+use Rattle.dex_handshake.proofs.Facing.{IsBid, IsOpen, IsDone, IsClosed, Owes, Owed, Past, TookLast}
 
 -- ---- tests
 

@@ -1,15 +1,15 @@
 -- The law of the line: the invariant of a wire, and what follows from it.
-use Rattle.std.specs.Prelude.{◌≡◌, ◌⊎◌, ℕ, Bool, List, [], ◌∷◌, ◌++◌, Option, Some, None, ⊤, true, false}
+use Rattle.std.specs.Prelude.{◌≡◌, ℕ, Bool, List, [], ◌∷◌, Option, Some, None, true, false}
 use Rattle.std.specs.List.{fold}
-use Rattle.std.proofs.Common.{refl, sym, ◌∙◌, ap, subst, inl, inr}
+use Rattle.std.proofs.Common.{refl, sym, subst, inl, inr}
 use Rattle.dsd_values.specs.declared.role.Role.{Role}
 use Rattle.dsd_values.specs.declared.role.Role.TheVariants.{Supplier, Receiver}
 use Rattle.dex_line.specs.FrameShapes.{FrameShape, Enq, Damaged, Bad}
-use Rattle.dex_handshake.specs.LineTable.{FirstStage, hears, quiets}
-use Rattle.dex_handshake.specs.LineRun.{LineEnd, EndStep, end_hears, end_quiets, fresh}
-use Rattle.dex_handshake.specs.Wire.{Wire, WireEvent, Deliver, Lose, Damage, Spoil, QuietAt, Flight, toward, stepped, delivers, in_place, silences, wire_after, first_wire, wire_of}
+use Rattle.dex_handshake.specs.LineTable.{quiets}
+use Rattle.dex_handshake.specs.LineRun.{LineEnd, end_hears, end_quiets}
+use Rattle.dex_handshake.specs.Wire.{Wire, WireEvent, Deliver, Lose, Damage, Spoil, QuietAt, Flight, toward, delivers, in_place, silences, wire_after, first_wire, wire_of}
 use Rattle.dex_handshake.specs.LineLaw.{AreFit}
-use Rattle.dex_handshake.proofs.Facing.{Stand, AtStart, Way, Still, Forth, Back, turned, forth, back, Flying, Enquiry, noise, Holds, GoesOn, SenderHears, HearerHears, SenderWaits, HearerWaits, Delivered}
+use Rattle.dex_handshake.proofs.Facing.{AtStart, Way, Still, Forth, Back, turned, forth, back, Enquiry, Holds, GoesOn, SenderWaits, HearerWaits, Delivered}
 use Rattle.dex_handshake.proofs.Hearing.{delivered}
 use Rattle.dex_handshake.proofs.Quiets.{sender_waited, hearer_waited, lost, damaged, garbled_way}
 

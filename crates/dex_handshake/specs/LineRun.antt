@@ -4,7 +4,7 @@ use Rattle.std.specs.List.{fold}
 use Rattle.dsd_values.specs.declared.role.Role.{Role}
 use Rattle.dex_line.specs.BlockCut.{blocks_of}
 use Rattle.dex_line.specs.FrameShapes.{FrameShape, Block}
-use Rattle.dex_handshake.specs.LineTable.{Line, LineStep, Ready, Bidding, Awaiting, SentAll, InText, Finished, Ended, hears, quiets, unplugs, gives, turn_of, started, says_nothing}
+use Rattle.dex_handshake.specs.LineTable.{Line, LineStep, InText, Finished, Ended, hears, quiets, unplugs, gives, turn_of, started, says_nothing}
 use Rattle.dex_handshake.specs.declared.session_end.SessionEnd.{SessionEnd}
 
 -- what an end hears of the line

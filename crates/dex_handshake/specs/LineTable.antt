@@ -9,7 +9,7 @@ use Rattle.dsd_values.specs.declared.comm_id.TheConstants.{COMM_ID_BYTES}
 use Rattle.dsd_values.specs.declared.fault.ValueFault.{ValueFault}
 use Rattle.dsd_values.specs.declared.role.Role.{Role}
 use Rattle.dsd_values.specs.declared.role.Role.TheVariants.{Supplier, Receiver}
-use Rattle.dex_line.specs.FrameShapes.{FrameShape, Enq, Ack0, Ack1, Nak, Eot, Header, Block, Damaged, Bad}
+use Rattle.dex_line.specs.FrameShapes.{FrameShape, Enq, Ack0, Ack1, Nak, Eot, Header, Block, Damaged}
 use Rattle.dxs_envelope.specs.declared.outgoing.TheConstants.{TRANSMISSION_BYTES}
 use Rattle.dex_handshake.specs.declared.session_end.SessionEnd.{SessionEnd}
 use Rattle.dex_handshake.specs.declared.session_end.SessionEnd.TheVariants.{Complete, Silent, TriesSpent, PartnerRefused, WrongPartner, TextLimit, Unplugged}

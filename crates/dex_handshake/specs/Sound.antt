@@ -1,5 +1,5 @@
 -- What an end may say, and what of the text that it has heard holds, at each state of the line.
-use Rattle.std.specs.Prelude.{◌≡◌, ◌⊎◌, ℕ, Bool, List, [], ◌∷◌, ◌++◌, codes, Contains, Option, Some, None, ⊤}
+use Rattle.std.specs.Prelude.{◌≡◌, ◌⊎◌, ℕ, List, [], ◌∷◌, ◌++◌, codes, Contains, Option, Some, None, ⊤}
 use Rattle.dex_line.specs.FrameShapes.{FrameShape, Enq, Ack0, Ack1, Nak, Eot, Header, Block, Damaged, Bad}
 use Rattle.dex_line.specs.FrameSpelling.{IsSpoken}
 use Rattle.dex_handshake.specs.LineTable.{Line, LineStep, Ready, Bidding, Awaiting, SentAll, InText, Finished, Ended}

@@ -1,5 +1,5 @@
 -- What a contract sees of a state: its line, put together from the fields of the state.
-use Rattle.std.specs.Prelude.{◌≡◌, ℕ, ◌+◌, ◌≤◌, ◌==◌, Bool, true, false, List, [], ◌∷◌, if◌then◌else◌, length, take, drop, Option, Some, None}
+use Rattle.std.specs.Prelude.{◌≡◌, ℕ, ◌+◌, ◌≤◌, ◌==◌, Bool, false, List, [], ◌∷◌, if◌then◌else◌, length, take, drop, Option, Some, None}
 use Rattle.dex_line.specs.FrameShapes.{FrameShape, Bad, Block}
 use Rattle.dex_line.specs.TextUnits.{UnitsFit}
 use Rattle.dex_line.specs.declared.cutter.TheConstants.{BLOCK_WRITTEN}

@@ -1,6 +1,6 @@
 //! Laws of the line, each on a function that does nothing.
 
-ghost use Rattle.std.specs.Prelude.{◌≡◌, ◌⊎◌, ◌+◌, ◌++◌, ◌∷◌, [], ℕ, Bool, List, Some, None, true, false, codes, length, nat_lt};
+ghost use Rattle.std.specs.Prelude.{◌≡◌, ◌⊎◌, ◌+◌, ◌∷◌, [], ℕ, Bool, List, Some, None, true, false, codes, length, nat_lt};
 ghost use Rattle.dsd_values.specs.Reading.{IsIdText};
 ghost use Rattle.dsd_values.specs.declared.comm_id.TheConstants.{COMM_ID_BYTES};
 ghost use Rattle.dsd_values.specs.declared.role.Role.{Role as EndRole};
@@ -9,7 +9,7 @@ ghost use Rattle.dxs_envelope.specs.Sending.{IsOutgoing};
 ghost use Rattle.dxs_envelope.specs.declared.outgoing.TheConstants.{TRANSMISSION_BYTES};
 ghost use Rattle.dex_handshake.specs.LineLaw.{AreFit, HandsOn, HasSaidEot, IsAskedNext, IsHandedOn, IsSpokenFirst, IsTaken, StaysAt};
 ghost use Rattle.dex_handshake.specs.LineRun.{load_of};
-ghost use Rattle.dex_handshake.specs.LineTable.{ends, first_header, gives, hears, no_quiets, nothing_taken, one_quiet, quiets, reply_of, says, says_nothing, second_header, started, unplugs, Awaiting, Bidding, Common, Ended, FirstStage, Finished, InText, Line, Partner, Ready, SecondStage, Sending, SentAll, Taking, TextStage};
+ghost use Rattle.dex_handshake.specs.LineTable.{ends, gives, hears, no_quiets, nothing_taken, quiets, reply_of, says, says_nothing, second_header, started, unplugs, Awaiting, Bidding, Common, Ended, FirstStage, Finished, InText, Line, Partner, Ready, SecondStage, Sending, SentAll, Taking, TextStage};
 ghost use Rattle.dex_handshake.specs.Sound.{IsSayable, IsSayableStep, SendsLoad, SendsLoadStep};
 ghost use Rattle.dex_handshake.specs.Wire.{wire_of, WireEvent};
 ghost use Rattle.dex_handshake.specs.declared.session_end.SessionEnd.TheVariants.{Complete as IsComplete, PartnerRefused as IsRefused, Silent as IsSilent, TextLimit as IsTooLong, TriesSpent as IsSpent, Unplugged as IsUnplugged, WrongPartner as IsWrong};

@@ -43,7 +43,7 @@ pub struct Awaiting<S: Stage> {
 }
 
 impl<S: Stage> Model for Awaiting<S> {
-    ghost use Rattle.std.specs.Prelude.{◌+◌, ◌≢◌, []};
+    ghost use Rattle.std.specs.Prelude.{◌≢◌, []};
     ghost use Rattle.dex_handshake.specs.StateSeen.{at_stage, sending_seen, AwaitingSeen};
 
     ghost Value = { AwaitingSeen };

@@ -1,6 +1,6 @@
 //! The blocks of a transmission that goes out.
 
-ghost use Rattle.std.specs.Prelude.{◌≡◌, ◌+◌, ◌≢◌, ◌≤◌, [], length, drop, take};
+ghost use Rattle.std.specs.Prelude.{◌≡◌, ◌+◌, ◌≤◌, length, drop};
 ghost use Rattle.dex_line.specs.FrameShapes.{answer_seen};
 ghost use Rattle.dex_line.specs.TextUnits.{UnitsFit};
 ghost use Rattle.dex_line.specs.declared.cutter.TheConstants.{BLOCK_WRITTEN};

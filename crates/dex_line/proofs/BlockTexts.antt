@@ -1,5 +1,5 @@
 -- Each block of a text of text bytes is a text that a block may have.
-use Rattle.std.proofs.Common.{◌≡◌, ℕ, ◌<◌, ◌≤◌, Bool, true, List, [], ◌∷◌, ◌++◌, length, map, ◌∙◌, ap, arith}
+use Rattle.std.proofs.Common.{◌≡◌, ℕ, ◌<◌, ◌≤◌, Bool, true, List, [], ◌∷◌, length, map, ◌∙◌, ap, arith}
 use Rattle.std.specs.Prelude.{⊤}
 use Rattle.std.specs.List.{concat, list_all}
 use Rattle.dex_line.specs.Bytes.{is_text}

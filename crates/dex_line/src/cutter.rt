@@ -1,6 +1,6 @@
 //! A cutter, which cuts a text into blocks.
 
-ghost use Rattle.std.specs.Prelude.{◌≡◌, ◌<◌, ◌≤◌, ◌∷◌, true, [], length, IfSome, MatchOption};
+ghost use Rattle.std.specs.Prelude.{◌≡◌, ◌<◌, ◌∷◌, true, [], length, IfSome, MatchOption};
 ghost use Rattle.std.specs.List.{list_all};
 ghost use Rattle.dex_line.specs.BlockCut.{blocks_of, Fills, IsFirstBlock, Marks};
 ghost use Rattle.dex_line.specs.Bytes.{is_text};

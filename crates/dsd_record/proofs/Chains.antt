@@ -1,5 +1,5 @@
 -- A chain with one adjustment more, and its version.
-use Rattle.std.proofs.Common.{◌≡◌, ◌≢◌, ◌≤◌, ℕ, ◌+◌, Bool, false, if◌then◌else◌, List, [], ◌∷◌, ◌++◌, length, map, Option, Some, Result, Ok, Err, refl, sym, ap, subst, ◌∙◌, append-nil, append_assoc, option_map, OnOk, arith}
+use Rattle.std.proofs.Common.{◌≡◌, ◌≢◌, ◌≤◌, ℕ, ◌+◌, Bool, false, if◌then◌else◌, List, [], ◌∷◌, ◌++◌, length, map, Some, Result, Ok, Err, refl, sym, ap, subst, ◌∙◌, option_map, OnOk, arith}
 use Rattle.std.specs.List.{flat_map, range_with_len}
 use Rattle.std.specs.Result.{result_ok}
 use Rattle.dsd_pricing.specs.Pricing.{totals_of}
@@ -9,10 +9,9 @@ use Rattle.dsd_values.specs.declared.cents.TheConstants.Cents.{MAX as MOST_CENTS
 use Rattle.dsd_values.specs.declared.line.Line.{Line}
 use Rattle.adjustment_895.specs.AnswerRecord.{AnswerRecord}
 use Rattle.adjustment_895.specs.Grammar.{has_none}
-use Rattle.dsd_record.specs.Applying.{Applies, Refuses, adjusted, applied, apply_fault, lines_after, stated_by}
+use Rattle.dsd_record.specs.Applying.{Applies, Refuses, adjusted, applied, apply_fault}
 use Rattle.dsd_record.specs.Chain.{Adjusted, Chain, FollowOn, Follows, GoesOn, IsChained, chain_from, last_check, lines_of, version_of, version_with, with_adjusted}
 use Rattle.dsd_record.specs.LineChanges.{changed, put}
-use Rattle.dsd_record.specs.Naming.{answered_level}
 use Rattle.dsd_record.specs.Version.{Version}
 use Rattle.dsd_record.specs.declared.fault.ApplyFault.{ApplyFault}
 use Rattle.dsd_record.proofs.Faults.{faultless}

@@ -5,7 +5,7 @@ use Rattle.dsd_values.specs.declared.extra.Extra.{Extra}
 use Rattle.dsd_values.specs.declared.line.Line.{Line}
 use Rattle.segments.specs.Views.{Seg, element_of}
 use Rattle.segments.specs.Extras.{kept_text}
-use Rattle.segments.specs.Grammar.{BehindHead, Body, Closing, Extras, IsLoopId, IsStart, Items, Loop, LoopEnd, One, Record, References, Shape, Shared}
+use Rattle.segments.specs.Grammar.{BehindHead, Body, Closing, Extras, IsLoopId, IsStart, Items, Loop, LoopEnd, One, References, Shape, Shared}
 use Rattle.segments.specs.declared.kind.Form.{Form}
 use Rattle.segments.specs.declared.kind.Form.TheVariants as forms
 use Rattle.segments.specs.declared.kind.Kind.{Kind}

@@ -1,5 +1,5 @@
 -- Versions that are right: the first, and what an answer leaves.
-use Rattle.std.proofs.Common.{◌≡◌, ◌≤◌, ℕ, pos, true, List, [], ◌∷◌, length, Option, Some, Ok, Result, option_map, refl, sym, ap, ◌∙◌}
+use Rattle.std.proofs.Common.{◌≡◌, ◌≤◌, ℕ, pos, true, List, [], ◌∷◌, length, Some, Ok, Result, option_map, refl, sym, ap, ◌∙◌}
 use Rattle.std.specs.List.{All}
 use Rattle.std.specs.Result.{result_ok}
 use Rattle.std.proofs.lemmas.List.Elements.{All-same}
@@ -21,7 +21,7 @@ use Rattle.adjustment_895.specs.AnswerRecord.{AnswerRecord}
 use Rattle.adjustment_895.specs.AnswerText.{IsAnswer}
 use Rattle.adjustment_895.specs.Grammar.{has_none}
 use Rattle.adjustment_895.proofs.Made.{answer_lines}
-use Rattle.dsd_record.specs.Applying.{Applies, adjusted, lines_after, rows_fault, stated_by, totals_fault}
+use Rattle.dsd_record.specs.Applying.{Applies, adjusted, lines_after, rows_fault, totals_fault}
 use Rattle.dsd_record.specs.Chain.{chain_from, version_of, version_with}
 use Rattle.dsd_record.specs.LineChanges.{changed}
 use Rattle.segments.specs.SoundLines.{IsSoundLine}

@@ -9,6 +9,7 @@ use Rattle.dsd_values.proofs.Again.{twenty_digits}
 use Rattle.segments.specs.SegmentWriting.{Written, begun_with, given, line_of, without_empty_end}
 use Rattle.segments.specs.declared.segment_write_fault.TheConstants.{SEGMENT_WRITTEN}
 use Rattle.segments.proofs.EmptyEnds.{trim_filled}
+use Rattle.segments.specs.declared.texts.TheConstants.{MOST_CONTROL_NUMBER}
 use Rattle.dxs_envelope.specs.Sending.{header_row, trailer_row}
 
 -- ---- without empty elements at the end
@@ -61,12 +62,12 @@ trailer_length control sets small =
       joined_length (number_text control) (number_text sets) [],
     )
 
-pub header_short : (sender receiver : List ℕ) (control : ℕ) → length sender ≡ 10 → length receiver ≡ 10 → control ≤ 999_999_999
+pub header_short : (sender receiver : List ℕ) (control : ℕ) → length sender ≡ 10 → length receiver ≡ 10 → control ≤ MOST_CONTROL_NUMBER
     → length (line_of (header_row sender receiver control)) ≤ SEGMENT_WRITTEN
 header_short sender receiver control from to high =
     omega (arith, header_length sender receiver control from to, twenty_digits control (omega (arith, high)))
 
-pub trailer_short : (control sets : ℕ) → control ≤ 999_999_999 → sets < 2 ^ 64 → length (line_of (trailer_row control sets)) ≤ SEGMENT_WRITTEN
+pub trailer_short : (control sets : ℕ) → control ≤ MOST_CONTROL_NUMBER → sets < 2 ^ 64 → length (line_of (trailer_row control sets)) ≤ SEGMENT_WRITTEN
 trailer_short control sets high small =
     omega (arith, trailer_length control sets small, twenty_digits control (omega (arith, high)), twenty_digits sets small)
 

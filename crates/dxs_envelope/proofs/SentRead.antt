@@ -19,6 +19,7 @@ use Rattle.segments.specs.SegmentSpelling.{IsPart, SpellsSegments}
 use Rattle.segments.specs.SegmentWriting.{IsLine, line_of, segment_of}
 use Rattle.segments.specs.Views.{Seg, element_of}
 use Rattle.segments.proofs.Written.{element_part, segment_spelled}
+use Rattle.segments.specs.declared.texts.TheConstants.{MOST_CONTROL_NUMBER}
 use Rattle.dxs_envelope.specs.EnvelopeTable.{count_in, has_function, has_length, is_control_number, is_header, is_trailer}
 use Rattle.segments.specs.SetUnits.{AreUnits, IsInUnits}
 use Rattle.dxs_envelope.specs.Sending.{IsCommId, Sent, header_row, placed, trailer_row}
@@ -41,7 +42,7 @@ digit_passes b h = grind (arith, nat_tests)
 digits_pass : (text : List ℕ) → All IsAsciiDigit text → list_all is_ascii_digit text ≡ true
 digits_pass text h = list_all-from_AllPass is_ascii_digit text (λ k d under. digit_passes (get_or text k d) (h k d under))
 
-control_is : (control : ℕ) → control ≤ 999_999_999 → is_control_number (number_text control) ≡ true
+control_is : (control : ℕ) → control ≤ MOST_CONTROL_NUMBER → is_control_number (number_text control) ≡ true
 control_is control high =
     let some = decimal_nonempty control (omega (arith, high)) in
     let few = length-decimal-le 9 control (omega arith) (omega (arith, high)) (omega (arith, high)) in
@@ -53,7 +54,7 @@ control_is control high =
 abbrev header_at : List ℕ → List ℕ → ℕ → Seg
 header_at sender receiver control = segment_of 0 (header_row sender receiver control)
 
-pub header_line : (sender receiver : List ℕ) (control : ℕ) → IsCommId sender → IsCommId receiver → control ≤ 999_999_999 → IsLine (header_row sender receiver control)
+pub header_line : (sender receiver : List ℕ) (control : ℕ) → IsCommId sender → IsCommId receiver → control ≤ MOST_CONTROL_NUMBER → IsLine (header_row sender receiver control)
 header_line sender receiver control from to high =
     let number = element_part (number_text control) (decimal_text_element control (omega (arith, high))) in
     let parts = All-cons IsPart (number_text control) (receiver ∷ []) number
@@ -70,7 +71,7 @@ header_line sender receiver control from to high =
       short = header_short sender receiver control from.ten to.ten high;
     }
 
-module _ (sender receiver : List ℕ) (control : ℕ) (from : IsCommId sender) (to : IsCommId receiver) (high : control ≤ 999_999_999) where
+module _ (sender receiver : List ℕ) (control : ℕ) (from : IsCommId sender) (to : IsCommId receiver) (high : control ≤ MOST_CONTROL_NUMBER) where
   plain : header_at sender receiver control ≡ record { start = 0; bytes = line_of (header_row sender receiver control); parts = header_row sender receiver control }
   plain = ap (λ (l : List (List ℕ)). record { start = 0; bytes = line_of (header_row sender receiver control); parts = l }) (header_trimmed sender receiver control to.ten)
 
@@ -96,7 +97,7 @@ module _ (sender receiver : List ℕ) (control : ℕ) (from : IsCommId sender) (
 abbrev trailer_at : ℕ → ℕ → ℕ → Seg
 trailer_at place control sets = segment_of place (trailer_row control sets)
 
-pub trailer_line : (control sets : ℕ) → control ≤ 999_999_999 → sets < 2 ^ 64 → IsLine (trailer_row control sets)
+pub trailer_line : (control sets : ℕ) → control ≤ MOST_CONTROL_NUMBER → sets < 2 ^ 64 → IsLine (trailer_row control sets)
 trailer_line control sets high small =
     let number = element_part (number_text control) (decimal_text_element control (omega (arith, high))) in
     let count = element_part (number_text sets) (decimal_text_element sets small) in
@@ -110,7 +111,7 @@ trailer_line control sets high small =
       short = trailer_short control sets high small;
     }
 
-module _ (place control sets : ℕ) (high : control ≤ 999_999_999) (few : sets < 10 ^ 15) where
+module _ (place control sets : ℕ) (high : control ≤ MOST_CONTROL_NUMBER) (few : sets < 10 ^ 15) where
   ended : trailer_at place control sets ≡ record { start = place; bytes = line_of (trailer_row control sets); parts = trailer_row control sets }
   ended = ap (λ (l : List (List ℕ)). record { start = place; bytes = line_of (trailer_row control sets); parts = l }) (trailer_trimmed control sets (omega (arith, few)))
 

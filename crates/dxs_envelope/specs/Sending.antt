@@ -6,6 +6,7 @@ use Rattle.dsd_values.specs.Writing.{number_text}
 use Rattle.dsd_values.specs.declared.comm_id.TheConstants.{COMM_ID_BYTES}
 use Rattle.segments.specs.SegmentWriting.{line_of}
 use Rattle.segments.specs.SetUnits.{IsSetText}
+use Rattle.segments.specs.declared.texts.TheConstants.{MOST_CONTROL_NUMBER}
 use Rattle.dxs_envelope.specs.Views.{SetAt}
 use Rattle.dxs_envelope.specs.declared.outgoing.TheConstants.{TRANSMISSION_BYTES}
 use Rattle.dxs_envelope.specs.declared.outgoing.EnvelopeWriteFault.{EnvelopeWriteFault}
@@ -37,7 +38,7 @@ pub record Sent (sets : List (List ℕ)) (sender receiver : List ℕ) (control :
   pub from : IsCommId sender
   pub to : IsCommId receiver
   pub low : 1 ≤ control
-  pub high : control ≤ 999_999_999
+  pub high : control ≤ MOST_CONTROL_NUMBER
   pub each : All IsSetText sets
   pub written : text ≡ text_of_sets sender receiver control sets
   pub short : length text ≤ TRANSMISSION_BYTES

@@ -1,17 +1,16 @@
 //! The sets of a transmission.
 
-ghost use Rattle.std.specs.Prelude.{◌≡◌, ◌+◌, ◌<◌, ◌≤◌, [], ◌∷◌, Some, None, ℕ, List, length, IfOk, IfSome, MatchOption, MatchResult};
+ghost use Rattle.std.specs.Prelude.{◌≡◌, ◌+◌, ◌<◌, ◌≤◌, Some, None, ℕ, List, length, IfOk, IfSome, MatchOption, MatchResult};
 ghost use Rattle.segments.specs.SegmentCut.{next_of, left_after};
 ghost use Rattle.segments.specs.SegmentSpelling.{IsFront};
-ghost use Rattle.segments.specs.Views.{element_of};
 ghost use Rattle.dxs_envelope.specs.FirstFault.{Behind, Between as AtSets, Front, Inside, refused, told_behind, told_left, told_of, whole};
 ghost use Rattle.dxs_envelope.specs.SetsLeft.{IsAt, StandsBehind, Tells, between as standing_between, segment_at as segment_or_fault};
 
 use super::fault::{EnvelopeFault, EnvelopeReason, refuse};
 use super::slice::SetSlice;
 use super::stage::Stage;
-use super::table::{has_id, header_reason, trailer_reason};
-use segments::{Segment, SegmentReader};
+use super::table::{header_reason, trailer_reason};
+use segments::{Segment, SegmentReader, between, has_id};
 use std::marker::Model;
 
 /// Reads a transmission, set by set. A contract sees it as what is still to be told of the text: sets with their places, and
@@ -200,14 +199,4 @@ fn segment_at<'a>(
         Ok(segment) => Ok(segment),
         Err(fault) => refuse(place, EnvelopeReason::Segment(fault)),
     }
-}
-
-/// What stands from one place up to another.
-fn between(text: &[u8], start: usize, end: usize) -> &[u8]
-    requires ordered { start ≤ end }
-    requires inside { end ≤ length text.now }
-    ensures value { result.now ≡ standing_between start end text.now }
-    ensures whole { start + length result.now ≡ end }
-{
-    &text[start..end]
 }

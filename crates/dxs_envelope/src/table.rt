@@ -1,17 +1,15 @@
 //! The header and the trailer of a transmission.
 
-ghost use Rattle.std.specs.Prelude.{MatchOption, false, true, ◌≡◌, ◌+◌, ◌≤◌, codes, length, slice_index_or};
+ghost use Rattle.std.specs.Prelude.{MatchOption, false, true, ◌≡◌, ◌+◌, ◌≤◌};
 ghost use Rattle.std.specs.List.{list_all};
 ghost use Rattle.std.specs.Char.{is_ascii_digit};
-ghost use Rattle.segments.specs.Kinds.{has_id as starts_with_id};
-ghost use Rattle.segments.specs.Views.{element_of};
 ghost use Rattle.segments.specs.declared.segment.TheConstants.{SEGMENT_ELEMENTS};
-ghost use Rattle.dxs_envelope.specs.EnvelopeTable.{count_in, has_function, has_length as has_so_many, is_control_number as are_control_digits, is_ended as ends_behind, is_header as is_header_but_function, is_trailer};
+ghost use Rattle.dxs_envelope.specs.EnvelopeTable.{count_in, has_length as has_so_many, is_control_number as are_control_digits, is_ended as ends_behind, is_header as is_header_but_function, is_trailer};
 ghost use Rattle.dxs_envelope.specs.FirstFault.{header_reason as reason_of_header, trailer_reason as reason_of_trailer};
 
 use super::fault::EnvelopeReason;
 use dsd_values::{WORD_BYTES, read_number};
-use segments::Segment;
+use segments::{Segment, has_id};
 
 /// The reason against a segment as the header.
 pub fn header_reason(segment: &Segment<'_>) -> Option<EnvelopeReason>
@@ -67,12 +65,6 @@ fn trailer_count(segment: &Segment<'_>) -> Option<u64>
         Ok(said) if right && is_ended(segment, 2) => Some(said),
         _ => None,
     }
-}
-
-pub fn has_id(segment: &Segment<'_>, id: &[u8]) -> bool
-    ensures { result ≡ starts_with_id segment.now id.now }
-{
-    segment.id() == id
 }
 
 fn has_length(text: &[u8], least: usize, most: usize) -> bool

@@ -1,6 +1,6 @@
 //! Writing a transmission.
 
-ghost use Rattle.std.specs.Prelude.{◌≡◌, ◌≤◌, ◌++◌, ◌<◌, All, IfOk, Ok, IsSome, None, length};
+ghost use Rattle.std.specs.Prelude.{◌≡◌, ◌≤◌, ◌++◌, ◌<◌, All, IfOk, Ok, IsSome, length};
 ghost use Rattle.std.specs.List.{concat};
 ghost use Rattle.dsd_values.specs.Answers.{UnlessMemory};
 ghost use Rattle.dsd_values.specs.Reading.{IsElementText};
@@ -8,6 +8,7 @@ ghost use Rattle.segments.specs.SegmentWriting.{line_of, parts_of_begun};
 ghost use Rattle.segments.specs.SetUnits.{IsSetText};
 ghost use Rattle.dxs_envelope.specs.Sending.{IsCommId, Sent, header_row, text_of_sets, trailer_row, unless_long};
 ghost use Rattle.segments.specs.declared.segment_write_fault.TheConstants.{SEGMENT_WRITTEN};
+ghost use Rattle.segments.specs.declared.texts.TheConstants.{MOST_CONTROL_NUMBER};
 
 use super::outgoing::{EnvelopeWriteFault, Outgoing, TRANSMISSION_BYTES};
 use dsd_values::{CommId, Memory, SetText, write_plain_number};
@@ -23,7 +24,7 @@ pub fn write_transmission(
     control: u32,
 ) -> Result<Outgoing, EnvelopeWriteFault>
     requires low { 1 ≤ control }
-    requires high { control ≤ 999_999_999 }
+    requires high { control ≤ MOST_CONTROL_NUMBER }
     requires each { All IsSetText sets.now }
 
     // It is refused where it is too long, and else it is written so.
@@ -46,7 +47,7 @@ fn written(
     sets: &[SetText],
     control: u32,
 ) -> Result<Vec<u8>, Memory>
-    requires { control ≤ 999_999_999 }
+    requires { control ≤ MOST_CONTROL_NUMBER }
     ensures text { IfOk result (λ text. text.items ≡ text_of_sets sender receiver control sets.now) }
     ensures ids { IfOk result (λ _. IsCommId sender × IsCommId receiver) }
 {
@@ -68,7 +69,7 @@ fn joined(alloc: Global, header: &[u8], sets: &[SetText], trailer: &[u8]) -> Res
 }
 
 fn header(alloc: Global, sender: CommId, receiver: CommId, control: u32) -> Result<SetText, Memory>
-    requires { control ≤ 999_999_999 }
+    requires { control ≤ MOST_CONTROL_NUMBER }
     ensures text { IfOk result (λ text. text ≡ line_of (header_row sender receiver control)) }
     ensures ids { IfOk result (λ _. IsCommId sender × IsCommId receiver) }
 {
@@ -91,7 +92,7 @@ fn characters(id: CommId) -> [u8; 10]
 }
 
 fn trailer(alloc: Global, control: u32, sets: u64) -> Result<SetText, Memory>
-    requires { control ≤ 999_999_999 }
+    requires { control ≤ MOST_CONTROL_NUMBER }
     ensures { IfOk result (λ text. text ≡ line_of (trailer_row control sets)) }
 {
     let mut segments = SegmentWriter::new(alloc);

@@ -10,6 +10,7 @@ use Rattle.segments.specs.declared.segment_fault.SegmentFault.TheVariants.{TooLo
 use Rattle.segments.specs.Views.{Seg, Left}
 use Rattle.segments.specs.SegmentSpelling.{IsEnding, IsFront, IsPart, IsSegment, is_element_character, is_id, is_star}
 use Rattle.segments.specs.SegmentCut.{is_outside, body_length, after_body, size_of, parts_of, with_parts, seg_at, with_size, first_of, some_of, next_of, behind, left_by, left_after}
+use Rattle.segments.specs.declared.segment.TheConstants.{SEGMENT_BYTES}
 use Rattle.segments.proofs.Judging.{a_segment}
 use Rattle.segments.proofs.Front.{short_is}
 use Rattle.segments.proofs.Sized.{some_ending}
@@ -48,15 +49,15 @@ split-join part (next ∷ later) h =
 
 -- ---- the size
 
-feed_is : (start body : ℕ) (more : List ℕ) → body + 1 ≤ 512 → after_body start body (10 ∷ more) ≡ Ok (body + 1)
+feed_is : (start body : ℕ) (more : List ℕ) → body + 1 ≤ SEGMENT_BYTES → after_body start body (10 ∷ more) ≡ Ok (body + 1)
 feed_is start body more short = grind (arith, nat_tests)
 
-return_is : (start body : ℕ) (more : List ℕ) → body + 2 ≤ 512 → after_body start body (13 ∷ 10 ∷ more) ≡ Ok (body + 2)
+return_is : (start body : ℕ) (more : List ℕ) → body + 2 ≤ SEGMENT_BYTES → after_body start body (13 ∷ 10 ∷ more) ≡ Ok (body + 2)
 return_is start body more short =
-    let room : nat_eq body 512 ≡ false = grind (arith, nat_tests) in
+    let room : nat_eq body SEGMENT_BYTES ≡ false = grind (arith, nat_tests) in
     rw room (grind (arith, nat_tests))
 
-ending_is : (start body : ℕ) (ending more : List ℕ) → IsEnding ending → body + length ending ≤ 512 → (body_length (ending ++ more) ≡ 0) × (after_body start body (ending ++ more) ≡ Ok (body + length ending))
+ending_is : (start body : ℕ) (ending more : List ℕ) → IsEnding ending → body + length ending ≤ SEGMENT_BYTES → (body_length (ending ++ more) ≡ 0) × (after_body start body (ending ++ more) ≡ Ok (body + length ending))
 ending_is start body ending more (inl feed) short =
     let size = ap length feed in
     subst (λ (e : List ℕ). (body_length (e ++ more) ≡ 0) × (after_body start body (e ++ more) ≡ Ok (body + length e))) (sym feed) (refl, feed_is start body more (omega arith))
@@ -64,16 +65,16 @@ ending_is start body ending more (inr return) short =
     let size = ap length return in
     subst (λ (e : List ℕ). (body_length (e ++ more) ≡ 0) × (after_body start body (e ++ more) ≡ Ok (body + length e))) (sym return) (refl, return_is start body more (omega arith))
 
-size_is : (start : ℕ) (body ending more : List ℕ) → All (λ b. is_outside b ≡ false) body → IsEnding ending → length body + length ending ≤ 512 → (body_length (body ++ (ending ++ more)) ≡ length body) × (size_of start (body ++ (ending ++ more)) ≡ Ok (length body + length ending))
+size_is : (start : ℕ) (body ending more : List ℕ) → All (λ b. is_outside b ≡ false) body → IsEnding ending → length body + length ending ≤ SEGMENT_BYTES → (body_length (body ++ (ending ++ more)) ≡ length body) × (size_of start (body ++ (ending ++ more)) ≡ Ok (length body + length ending))
 size_is start body ending more inside ends short =
     let e = ending_is start (length body) ending more ends short in
     let long : body_length (body ++ (ending ++ more)) ≡ length body = body_past body (ending ++ more) inside ∙ omega (arith, e.0) in
     let size = short_is start (length body) (body ++ (ending ++ more)) (omega arith) ∙ ap (after_body start (length body)) (drop-append_seam body (ending ++ more)) ∙ e.1 in
-    (long, ap (λ (n : ℕ). cond (nat_lt 512 n) (Err (TooLong start)) (after_body start n (drop n (body ++ (ending ++ more))))) long ∙ size)
+    (long, ap (λ (n : ℕ). cond (nat_lt SEGMENT_BYTES n) (Err (TooLong start)) (after_body start n (drop n (body ++ (ending ++ more))))) long ∙ size)
 
 -- ---- the segment
 
-pub parts_are : (parts : List (List ℕ)) (ending : List ℕ) → 0 < length parts → All IsPart parts → IsEnding ending → length (join_with_byte 42 parts) + length ending ≤ 512 → parts_of (join_with_byte 42 parts ++ ending) ≡ parts
+pub parts_are : (parts : List (List ℕ)) (ending : List ℕ) → 0 < length parts → All IsPart parts → IsEnding ending → length (join_with_byte 42 parts) + length ending ≤ SEGMENT_BYTES → parts_of (join_with_byte 42 parts ++ ending) ≡ parts
 unfolding parts_of
 parts_are [] ending some characters ends short = absurd (omega arith)
 parts_are (part ∷ later) ending some characters ends short =
@@ -88,7 +89,7 @@ some_of-id [] id = cc
 some_of-id (part ∷ later) id = omega arith
 
 -- spelled parts are judged by their id and their number
-pub judged_is : (place : ℕ) (parts : List (List ℕ)) (ending more : List ℕ) → 0 < length parts → All IsPart parts → IsEnding ending → length (join_with_byte 42 parts) + length ending ≤ 512
+pub judged_is : (place : ℕ) (parts : List (List ℕ)) (ending more : List ℕ) → 0 < length parts → All IsPart parts → IsEnding ending → length (join_with_byte 42 parts) + length ending ≤ SEGMENT_BYTES
     → first_of place ((join_with_byte 42 parts ++ ending) ++ more) ≡ with_parts (record { start = place; bytes = join_with_byte 42 parts ++ ending; parts = parts })
 unfolding first_of
 judged_is place parts ending more some characters ends short =
@@ -101,7 +102,7 @@ judged_is place parts ending more some characters ends short =
     ap (with_size place (bytes ++ more)) size ∙ ap (λ (l : List ℕ). with_parts (seg_at place l)) cut
     ∙ ap (λ (ps : List (List ℕ)). with_parts (record { start = place; bytes = bytes; parts = ps })) (parts_are parts ending some characters ends short)
 
-first_is : (place : ℕ) (parts : List (List ℕ)) (ending more : List ℕ) → IsSegment parts → IsEnding ending → length (join_with_byte 42 parts) + length ending ≤ 512
+first_is : (place : ℕ) (parts : List (List ℕ)) (ending more : List ℕ) → IsSegment parts → IsEnding ending → length (join_with_byte 42 parts) + length ending ≤ SEGMENT_BYTES
     → first_of place ((join_with_byte 42 parts ++ ending) ++ more) ≡ Ok (record { start = place; bytes = join_with_byte 42 parts ++ ending; parts = parts })
 first_is place parts ending more s ends short =
     judged_is place parts ending more (some_of-id parts s.id) s.characters ends short

@@ -12,6 +12,7 @@ use Rattle.dsd_values.proofs.Again.{decimal_text_element}
 use Rattle.dsd_values.proofs.Laws.{element_passes, filled_word_of_spelled, word_between_spelled}
 use Rattle.dsd_values.proofs.Refusals.{all_pass, none_outside}
 use Rattle.segments.specs.SetWriting.{control_text}
+use Rattle.segments.specs.declared.texts.TheConstants.{MOST_CONTROL_NUMBER}
 
 zeros_pass : (count : ℕ) → All (λ b. is_no_element_byte b ≡ false) (replicate count 48)
 zeros_pass count = λ k d here.
@@ -24,14 +25,14 @@ control_element n small =
     (All-append (λ b. is_no_element_byte b ≡ false) (replicate (4 - length (number_text n)) 48) (number_text n) (zeros_pass (4 - length (number_text n)))
     (all_pass is_no_element_byte (λ b. is_no_element_byte b ≡ false) (λ b h. h) (number_text n) (decimal_text_element n small)))
 
-control_length : (n : ℕ) → n ≤ 999_999_999 → (4 ≤ length (control_text n)) × (length (control_text n) ≤ 9)
+control_length : (n : ℕ) → n ≤ MOST_CONTROL_NUMBER → (4 ≤ length (control_text n)) × (length (control_text n) ≤ 9)
 control_length n small =
     let digits = length-decimal-le 9 n (omega arith) (omega arith) (omega arith) in
     let zeros = length-replicate {A = ℕ} (4 - length (decimal n)) 48 in
     let sum = length-append (replicate (4 - length (decimal n)) 48) (decimal n) in
     (omega arith, omega arith)
 
-pub control_between : (n : ℕ) → n ≤ 999_999_999 → word_between 4 9 (control_text n) ≡ Ok (control_text n)
+pub control_between : (n : ℕ) → n ≤ MOST_CONTROL_NUMBER → word_between 4 9 (control_text n) ≡ Ok (control_text n)
 control_between n small =
     let size = control_length n small in
     let long = size.0 in
@@ -43,7 +44,7 @@ control_between n small =
       short = size.1;
     })
 
-pub control_filled : (n : ℕ) → n ≤ 999_999_999 → filled_word_of (control_text n) ≡ Ok (control_text n)
+pub control_filled : (n : ℕ) → n ≤ MOST_CONTROL_NUMBER → filled_word_of (control_text n) ≡ Ok (control_text n)
 control_filled n small =
     let size = control_length n small in
     let long = size.0 in

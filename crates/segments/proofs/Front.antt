@@ -1,10 +1,11 @@
 -- The first 513 bytes of a text decide how many its first segment takes.
-use Rattle.std.proofs.Common.{◌≡◌, ℕ, zero, suc, ◌<◌, ◌≤◌, min, not, if◌then◌else◌, nat_lt, List, [], ◌∷◌, length, take, drop, Err, inl, inr, ◌∙◌, ap, arith}
+use Rattle.std.proofs.Common.{◌≡◌, ℕ, zero, suc, ◌<◌, ◌≤◌, min, not, if◌then◌else◌, nat_lt, List, [], ◌∷◌, length, take, drop, Err, inl, inr, ◌∙◌, ap, arith, ◌+◌}
 use Rattle.std.proofs.lemmas.Bool.{cases_Bool}
 use Rattle.std.proofs.lemmas.Bool.Decides.{nat_tests}
 use Rattle.std.proofs.lemmas.List.Sums.{prefix_len-le-length}
 use Rattle.segments.specs.declared.segment_fault.SegmentFault.TheVariants.{TooLong}
 use Rattle.segments.specs.SegmentCut.{is_outside, body_length, after_body, size_of}
+use Rattle.segments.specs.declared.segment.TheConstants.{SEGMENT_BYTES}
 
 pub body_length-take : (n : ℕ) (rest : List ℕ) → body_length (take n rest) ≡ min n (body_length rest)
 body_length-take zero rest = omega arith
@@ -13,26 +14,26 @@ body_length-take (suc n) (byte ∷ rest) =
     let later = body_length-take n rest in
     elim (cases_Bool (is_outside byte)) [ inl outside ↦ rw outside (omega arith) | inr inside ↦ rw inside (omega arith) ]
 
-pub long_is : (start body : ℕ) (rest : List ℕ) → 512 < body → (if nat_lt 512 body then Err (TooLong start) else after_body start body (drop body rest)) ≡ Err (TooLong start)
+pub long_is : (start body : ℕ) (rest : List ℕ) → SEGMENT_BYTES < body → (if nat_lt SEGMENT_BYTES body then Err (TooLong start) else after_body start body (drop body rest)) ≡ Err (TooLong start)
 long_is start body rest far = grind (arith, nat_tests)
 
-pub short_is : (start body : ℕ) (rest : List ℕ) → body ≤ 512 → (if nat_lt 512 body then Err (TooLong start) else after_body start body (drop body rest)) ≡ after_body start body (drop body rest)
+pub short_is : (start body : ℕ) (rest : List ℕ) → body ≤ SEGMENT_BYTES → (if nat_lt SEGMENT_BYTES body then Err (TooLong start) else after_body start body (drop body rest)) ≡ after_body start body (drop body rest)
 short_is start body rest short = grind (arith, nat_tests)
 
-pub size_of-long : (start body : ℕ) (rest : List ℕ) → body ≡ body_length (take 513 rest) → 512 < body → size_of start rest ≡ Err (TooLong start)
+pub size_of-long : (start body : ℕ) (rest : List ℕ) → body ≡ body_length (take (SEGMENT_BYTES + 1) rest) → SEGMENT_BYTES < body → size_of start rest ≡ Err (TooLong start)
 size_of-long start body rest e long =
-    let least = body_length-take 513 rest in
-    let far : 512 < body_length rest = omega arith in
+    let least = body_length-take (SEGMENT_BYTES + 1) rest in
+    let far : SEGMENT_BYTES < body_length rest = omega arith in
     long_is start (body_length rest) rest far
 
-pub size_of-short : (start body : ℕ) (rest : List ℕ) → body ≡ body_length (take 513 rest) → body ≤ 512 → size_of start rest ≡ after_body start body (drop body rest)
+pub size_of-short : (start body : ℕ) (rest : List ℕ) → body ≡ body_length (take (SEGMENT_BYTES + 1) rest) → body ≤ SEGMENT_BYTES → size_of start rest ≡ after_body start body (drop body rest)
 size_of-short start body rest e short =
-    let least = body_length-take 513 rest in
+    let least = body_length-take (SEGMENT_BYTES + 1) rest in
     let same : body_length rest ≡ body = omega arith in
     short_is start (body_length rest) rest (omega arith) ∙ ap (λ (n : ℕ). after_body start n (drop n rest)) same
 
-pub body_inside : (body : ℕ) (rest : List ℕ) → body ≡ body_length (take 513 rest) → body ≤ length rest
+pub body_inside : (body : ℕ) (rest : List ℕ) → body ≡ body_length (take (SEGMENT_BYTES + 1) rest) → body ≤ length rest
 body_inside body rest e =
-    let least = body_length-take 513 rest in
+    let least = body_length-take (SEGMENT_BYTES + 1) rest in
     let most : body_length rest ≤ length rest = prefix_len-le-length (λ b. not (is_outside b)) rest in
     omega arith

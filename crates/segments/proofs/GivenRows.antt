@@ -11,6 +11,7 @@ use Rattle.dsd_values.proofs.Digits.{none_all}
 use Rattle.dsd_values.proofs.Refusals.{none_outside}
 use Rattle.segments.specs.SegmentSpelling.{IsPart, is_element_character, is_star}
 use Rattle.segments.specs.SegmentWriting.{Written, given, parts_of_begun}
+use Rattle.segments.specs.declared.segment.TheConstants.{SEGMENT_ELEMENTS}
 
 -- ---- parts and element texts
 
@@ -84,10 +85,10 @@ first_part text part rest e all = part_element part (All-head IsPart part rest (
 pub record IsRest (now : Written) (parts : List (List ℕ)) : Type 0 where
   pub begun : IsSome now.begun
   pub characters : All IsPart parts
-  pub few : length (parts_of_begun now.begun) + length parts ≤ 31
+  pub few : length (parts_of_begun now.begun) + length parts ≤ SEGMENT_ELEMENTS + 1
 
 pub rest_asked : (text part : List ℕ) (rest : List (List ℕ)) (old now : Written) → slice_split is_star text ≡ part ∷ rest → All IsPart (slice_split is_star text)
-    → length (parts_of_begun old.begun) + length (slice_split is_star text) ≤ 31 → now ≡ given part old → IsRest now rest
+    → length (parts_of_begun old.begun) + length (slice_split is_star text) ≤ SEGMENT_ELEMENTS + 1 → now ≡ given part old → IsRest now rest
 rest_asked text part rest old now e all few n =
     let same = ap (λ (w : Written). length (parts_of_begun w.begun)) n in
     let size = length-append (parts_of_begun old.begun) (part ∷ []) in

@@ -21,6 +21,7 @@ use Rattle.segments.specs.declared.kind.Form.TheVariants as forms
 use Rattle.segments.specs.declared.kind.Kind.{Kind}
 use Rattle.segments.specs.declared.kind.Kind.TheVariants as kinds
 use Rattle.segments.specs.declared.stated.StatedTotals.{StatedTotals}
+use Rattle.segments.specs.declared.texts.TheConstants.{MOST_CONTROL_NUMBER}
 use Rattle.segments.proofs.PartedTexts.{trimmed_segment}
 use Rattle.segments.proofs.RowsSay.{SaysAgain}
 use Rattle.segments.proofs.RowsShape.{IsSealable, sealed_so}
@@ -77,7 +78,7 @@ pub record IsMade (form : Form) (control : ℕ) (IsHead : Seg → Type 0) (texts
   pub long : All IsLongSegment segments
   pub shape : FromStart form (control_text control) IsHead texts lines extras (sealed_so (control_text control) check t) [] segments
 
-module _ (form : Form) (control : ℕ) (small : control ≤ 999_999_999) (IsHead : Seg → Type 0) (head : Row) (id : get_or head 0 [] ≡ head_id form) (says : SaysAgain IsHead head) where
+module _ (form : Form) (control : ℕ) (small : control ≤ MOST_CONTROL_NUMBER) (IsHead : Seg → Type 0) (head : Row) (id : get_or head 0 [] ≡ head_id form) (says : SaysAgain IsHead head) where
   pub made : (texts : List (List ℕ)) (lines : List Line) (extras : List Extra) (t : Shared) → IsBehindHead form texts lines extras t.totals t.signature → AreFewParts texts lines extras → IsMade form control IsHead texts lines extras t
   made texts lines extras t is few =
       let opened : List Row = start_row form control ∷ head ∷ (map kept_row texts ++ body_rows form lines extras t.totals t.signature) in

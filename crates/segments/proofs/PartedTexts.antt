@@ -12,6 +12,7 @@ use Rattle.segments.specs.Extras.{kept_text}
 use Rattle.segments.specs.SegmentSpelling.{IsPart, IsSegment, is_id, is_star}
 use Rattle.segments.specs.SegmentWriting.{in_front, segment_of, without_empty_end}
 use Rattle.segments.specs.SetWriting.{kept_row, parted}
+use Rattle.segments.specs.declared.segment.TheConstants.{SEGMENT_ELEMENTS}
 use Rattle.segments.proofs.EmptyEnds.{trim_all, trim_element, trim_joined, trim_length, trim_tail}
 use Rattle.segments.proofs.Written.{no_star}
 
@@ -87,9 +88,9 @@ parted_text parts h = ap parted (text_is parts h) ∙ parted_joined (without_emp
 pub record IsTail (before : ℕ) (tail : List ℕ) : Type 0 where
   pub same : without_end_stars (join_with_byte 42 (parted tail)) ≡ tail
   pub characters : All IsPart (parted tail)
-  pub few : before + length (parted tail) ≤ 31
+  pub few : before + length (parted tail) ≤ SEGMENT_ELEMENTS + 1
 
-pub tail_is : (before : ℕ) (seg : Seg) (tail : List ℕ) → before ≤ 31 → IsSegment seg.parts → tail_from before seg ≡ tail → IsTail before tail
+pub tail_is : (before : ℕ) (seg : Seg) (tail : List ℕ) → before ≤ SEGMENT_ELEMENTS + 1 → IsSegment seg.parts → tail_from before seg ≡ tail → IsTail before tail
 tail_is before seg tail low s e = subst (IsTail before) e (record {
   same = ap (λ (l : List (List ℕ)). without_end_stars (join_with_byte 42 l)) (parted_text behind all) ∙ trim_joined behind;
   characters = subst (All IsPart) (sym (parted_text behind all)) (trim_all IsPart behind all);
@@ -103,7 +104,7 @@ tail_is before seg tail low s e = subst (IsTail before) e (record {
     all = All-drop IsPart before seg.parts s.characters
 
 -- no tail
-pub no_tail : (before : ℕ) → before ≤ 31 → IsTail before []
+pub no_tail : (before : ℕ) → before ≤ SEGMENT_ELEMENTS + 1 → IsTail before []
 no_tail before low = record { same = refl; characters = All-nil IsPart; few = omega arith }
 
 -- ---- segments as they are kept

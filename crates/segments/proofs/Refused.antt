@@ -1,5 +1,5 @@
 -- A fault is answered exactly where it stands at the front.
-use Rattle.std.proofs.Common.{◌≡◌, ◌≢◌, ℕ, suc, ◌+◌, ◌<◌, ◌≤◌, true, false, not, cond, nat_eq, nat_lt, List, [], ◌∷◌, ◌++◌, length, take, drop, get_or, Result, Ok, Err, Option, None, inl, inr, refl, sym, ◌∙◌, ap, subst, arith, length-append}
+use Rattle.std.proofs.Common.{◌≡◌, ◌≢◌, ℕ, suc, ◌+◌, ◌-◌, ◌<◌, ◌≤◌, true, false, not, cond, nat_eq, nat_lt, List, [], ◌∷◌, ◌++◌, length, take, drop, get_or, Result, Ok, Err, Option, None, inl, inr, refl, sym, ◌∙◌, ap, subst, arith, length-append}
 use Rattle.std.proofs.Math.Seq.{drop-append_seam}
 use Rattle.std.specs.List.{join_with_byte}
 use Rattle.std.proofs.lemmas.Bool.{cases_eq, cases_Bool}
@@ -12,6 +12,7 @@ use Rattle.segments.specs.Views.{Seg, Left}
 use Rattle.segments.specs.SegmentSpelling.{is_id, is_inside}
 use Rattle.segments.specs.SegmentRefusal.{IsThere, EndsInside, HasBadByte, HasLoneReturn, IsTooLong, HasParts, IsFault}
 use Rattle.segments.specs.SegmentCut.{is_outside, body_length, limited, after_return, after_body, size_of, parts_of, with_parts, seg_at, with_size, first_of, some_of, next_of}
+use Rattle.segments.specs.declared.segment.TheConstants.{SEGMENT_BYTES, SEGMENT_ELEMENTS}
 use Rattle.segments.proofs.Front.{short_is, long_is}
 use Rattle.segments.proofs.Sized.{IsSized, sized, some_ending, body_inside}
 use Rattle.segments.proofs.Complete.{body_past, judged_is, some_left}
@@ -35,8 +36,8 @@ front_there left = record {
 front_long : (rest : List ℕ) → length (take (body_length rest) rest) ≡ body_length rest
 front_long rest = length-take-le (body_length rest) rest (prefix_len-le-length (λ b. not (is_outside b)) rest)
 
-past_limit : (start n : ℕ) (fault : SegmentFault) → limited start n ≡ Err fault → (512 < n) × (TooLong start ≡ fault)
-past_limit start n fault h = elim (cases_Bool (nat_lt 512 n)) [
+past_limit : (start n : ℕ) (fault : SegmentFault) → limited start n ≡ Err fault → (SEGMENT_BYTES < n) × (TooLong start ≡ fault)
+past_limit start n fault h = elim (cases_Bool (nat_lt SEGMENT_BYTES n)) [
   | inl long ↦ let e : Err (TooLong start) ≡ Err fault = rw long at h in (grind (arith, nat_tests), cc)
   | inr short ↦ let e : Ok n ≡ Err fault = rw short at h in cc
 ]
@@ -47,10 +48,10 @@ no_feed byte h = grind (arith, nat_tests)
 no_return : (byte : ℕ) → byte ≢ 13 → nat_eq byte 13 ≡ false
 no_return byte h = grind (arith, nat_tests)
 
-full_is : (n : ℕ) → nat_eq n 512 ≡ true → n ≡ 512
+full_is : (n : ℕ) → nat_eq n SEGMENT_BYTES ≡ true → n ≡ SEGMENT_BYTES
 full_is n h = grind (arith, nat_tests)
 
-room_is : (n : ℕ) → n ≤ 512 → nat_eq n 512 ≡ false → n ≤ 511
+room_is : (n : ℕ) → n ≤ SEGMENT_BYTES → nat_eq n SEGMENT_BYTES ≡ false → n ≤ SEGMENT_BYTES - 1
 room_is n least h = grind (arith, nat_tests)
 
 outside_is : (byte : ℕ) → is_outside byte ≡ true → is_inside byte ≡ false
@@ -72,7 +73,7 @@ begins_outside (byte ∷ more) = elim (cases_Bool (is_outside byte)) [
 
 module _ (left : Left) (body : List ℕ) where
   -- a CR of the first 512 bytes
-  fault_behind_return : (after : List ℕ) (fault : SegmentFault) → IsThere left body (13 ∷ after) → length body ≤ 511 → after_return left.place (length body) after ≡ Err fault → IsFault left fault
+  fault_behind_return : (after : List ℕ) (fault : SegmentFault) → IsThere left body (13 ∷ after) → length body ≤ SEGMENT_BYTES - 1 → after_return left.place (length body) after ≡ Err fault → IsFault left fault
   fault_behind_return [] fault t early h =
       let e : NoEnd left.place ≡ fault = cc in
       let whole = ap length t.joined ∙ length-append body (13 ∷ []) in
@@ -89,8 +90,8 @@ module _ (left : Left) (body : List ℕ) where
         subst (IsFault left) e (inr (refl, record { body = body; next = next; more = more; there = t; alone = alone; early = early; at = refl }))
   ]
 
-  fault_at_return : (more : List ℕ) (fault : SegmentFault) → IsThere left body (13 ∷ more) → length body ≤ 512 → cond (nat_eq (length body) 512) (Err (TooLong left.place)) (after_return left.place (length body) more) ≡ Err fault → IsFault left fault
-  fault_at_return more fault t short h = elim (cases_Bool (nat_eq (length body) 512)) [
+  fault_at_return : (more : List ℕ) (fault : SegmentFault) → IsThere left body (13 ∷ more) → length body ≤ SEGMENT_BYTES → cond (nat_eq (length body) SEGMENT_BYTES) (Err (TooLong left.place)) (after_return left.place (length body) more) ≡ Err fault → IsFault left fault
+  fault_at_return more fault t short h = elim (cases_Bool (nat_eq (length body) SEGMENT_BYTES)) [
     | inl full ↦
         let same : Err (TooLong left.place) ≡ Err fault = rw full at h in
         let e : TooLong left.place ≡ fault = cc in
@@ -98,7 +99,7 @@ module _ (left : Left) (body : List ℕ) where
     | inr room ↦ fault_behind_return more fault t (room_is (length body) short room) (rw room at h)
   ]
 
-  fault_behind : (after : List ℕ) (fault : SegmentFault) → IsThere left body after → BeginsOutside after → 0 < length left.rest → length body ≤ 512 → after_body left.place (length body) after ≡ Err fault → IsFault left fault
+  fault_behind : (after : List ℕ) (fault : SegmentFault) → IsThere left body after → BeginsOutside after → 0 < length left.rest → length body ≤ SEGMENT_BYTES → after_body left.place (length body) after ≡ Err fault → IsFault left fault
   fault_behind [] fault t begins some short h =
       let e : NoEnd left.place ≡ fault = cc in
       let whole = ap length t.joined ∙ length-append body [] in
@@ -125,22 +126,22 @@ fault_of-size : (left : Left) (fault : SegmentFault) → 0 < length left.rest �
 fault_of-size left fault some h =
     let long = front_long left.rest in
     let t = front_there left in
-    elim (cases_Bool (nat_lt 512 (body_length left.rest))) [
+    elim (cases_Bool (nat_lt SEGMENT_BYTES (body_length left.rest))) [
       | inl far ↦
           let same : Err (TooLong left.place) ≡ Err fault = rw far at h in
           let e : TooLong left.place ≡ fault = cc in
           subst (IsFault left) e (refl, record { body = take (body_length left.rest) left.rest; after = drop (body_length left.rest) left.rest; there = t; long = inl (rw long (far_is (body_length left.rest) far)) })
       | inr near ↦
           let behind : after_body left.place (body_length left.rest) (drop (body_length left.rest) left.rest) ≡ Err fault = rw near at h in
-          let least : length (take (body_length left.rest) left.rest) ≤ 512 = rw long (near_is (body_length left.rest) near) in
+          let least : length (take (body_length left.rest) left.rest) ≤ SEGMENT_BYTES = rw long (near_is (body_length left.rest) near) in
           fault_behind left (take (body_length left.rest) left.rest) (drop (body_length left.rest) left.rest) fault t (begins_outside left.rest) some least
           (ap (λ (n : ℕ). after_body left.place n (drop (body_length left.rest) left.rest)) long ∙ behind)
     ]
   where
-    far_is : (n : ℕ) → nat_lt 512 n ≡ true → 512 < n
+    far_is : (n : ℕ) → nat_lt SEGMENT_BYTES n ≡ true → SEGMENT_BYTES < n
     far_is n h = grind (arith, nat_tests)
 
-    near_is : (n : ℕ) → nat_lt 512 n ≡ false → n ≤ 512
+    near_is : (n : ℕ) → nat_lt SEGMENT_BYTES n ≡ false → n ≤ SEGMENT_BYTES
     near_is n h = grind (arith, nat_tests)
 
 -- ---- the parts
@@ -158,7 +159,7 @@ fault_of-parts left size fault s h =
       short = s.spelled.short;
     } in
     elim (cases_Bool (is_id (get_or (parts_of (take size left.rest)) 0 []))) [
-      | inl id ↦ elim (cases_Bool (nat_lt 31 (length (parts_of (take size left.rest))))) [
+      | inl id ↦ elim (cases_Bool (nat_lt (SEGMENT_ELEMENTS + 1) (length (parts_of (take size left.rest))))) [
         | inl many ↦
             let same : Err (TooManyElements left.place) ≡ Err fault = rw (id, many) at h in
             let e : TooManyElements left.place ≡ fault = cc in
@@ -171,7 +172,7 @@ fault_of-parts left size fault s h =
           subst (IsFault left) e (refl, (parts, has, none))
     ]
   where
-    many_is : (n : ℕ) → nat_lt 31 n ≡ true → 31 < n
+    many_is : (n : ℕ) → nat_lt (SEGMENT_ELEMENTS + 1) n ≡ true → SEGMENT_ELEMENTS + 1 < n
     many_is n h = grind (arith, nat_tests)
 
 fault_of-answer : (left : Left) (size : Result ℕ SegmentFault) (fault : SegmentFault) → size_of left.place left.rest ≡ size → 0 < length left.rest → with_size left.place left.rest size ≡ Err fault → IsFault left fault
@@ -217,14 +218,14 @@ module _ (left : Left) (body after : List ℕ) (t : IsThere left body after) whe
   body_least : body_length left.rest ≡ length body + body_length after
   body_least = ap body_length t.joined ∙ body_past body after (λ k d under. not_outside (get_or body k d) (t.inside k d under))
 
-  size_behind : BeginsOutside after → length body ≤ 512 → size_of left.place left.rest ≡ after_body left.place (length body) after
+  size_behind : BeginsOutside after → length body ≤ SEGMENT_BYTES → size_of left.place left.rest ≡ after_body left.place (length body) after
   size_behind begins short =
       let long : body_length left.rest ≡ length body = body_least ∙ omega (arith, body_none after begins) in
       let behind : drop (length body) left.rest ≡ after = ap (drop (length body)) t.joined ∙ drop-append_seam body after in
-      ap (λ (n : ℕ). cond (nat_lt 512 n) (Err (TooLong left.place)) (after_body left.place n (drop n left.rest))) long
+      ap (λ (n : ℕ). cond (nat_lt SEGMENT_BYTES n) (Err (TooLong left.place)) (after_body left.place n (drop n left.rest))) long
       ∙ short_is left.place (length body) left.rest short ∙ ap (after_body left.place (length body)) behind
 
-  size_long : 512 < length body → size_of left.place left.rest ≡ Err (TooLong left.place)
+  size_long : SEGMENT_BYTES < length body → size_of left.place left.rest ≡ Err (TooLong left.place)
   size_long far =
       let least = body_least in
       long_is left.place (body_length left.rest) left.rest (omega arith)
@@ -232,18 +233,18 @@ module _ (left : Left) (body after : List ℕ) (t : IsThere left body after) whe
   whole_size : length left.rest ≡ length body + length after
   whole_size = ap length t.joined ∙ length-append body after
 
-at_return : (start n : ℕ) (more : List ℕ) → n ≤ 511 → after_body start n (13 ∷ more) ≡ after_return start n more
+at_return : (start n : ℕ) (more : List ℕ) → n ≤ SEGMENT_BYTES - 1 → after_body start n (13 ∷ more) ≡ after_return start n more
 at_return start n more room =
-    let test : nat_eq n 512 ≡ false = grind (arith, nat_tests) in
+    let test : nat_eq n SEGMENT_BYTES ≡ false = grind (arith, nat_tests) in
     rw test refl
 
-return_past : (start n : ℕ) (more : List ℕ) → n ≡ 512 → after_body start n (13 ∷ more) ≡ Err (TooLong start)
+return_past : (start n : ℕ) (more : List ℕ) → n ≡ SEGMENT_BYTES → after_body start n (13 ∷ more) ≡ Err (TooLong start)
 return_past start n more full = rw full refl
 
-feed_past : (start n : ℕ) (more : List ℕ) → n ≡ 512 → after_body start n (10 ∷ more) ≡ Err (TooLong start)
+feed_past : (start n : ℕ) (more : List ℕ) → n ≡ SEGMENT_BYTES → after_body start n (10 ∷ more) ≡ Err (TooLong start)
 feed_past start n more full = rw full refl
 
-return_feed_past : (start n : ℕ) (more : List ℕ) → n ≡ 511 → after_return start n (10 ∷ more) ≡ Err (TooLong start)
+return_feed_past : (start n : ℕ) (more : List ℕ) → n ≡ SEGMENT_BYTES - 1 → after_return start n (10 ∷ more) ≡ Err (TooLong start)
 return_feed_past start n more full = rw full refl
 
 next_of-no_end : (left : Left) → EndsInside left → next_of left ≡ Err (NoEnd left.place)
@@ -321,9 +322,9 @@ next_of-parts left parts fault f judged =
 no_id : (start : ℕ) (parts : List (List ℕ)) (bytes : List ℕ) → is_id (get_or parts 0 []) ≡ false → with_parts (record { start = start; bytes = bytes; parts = parts }) ≡ Err (BadId start)
 no_id start parts bytes none = rw none refl
 
-too_many : (start : ℕ) (parts : List (List ℕ)) (bytes : List ℕ) → is_id (get_or parts 0 []) ≡ true → 31 < length parts → with_parts (record { start = start; bytes = bytes; parts = parts }) ≡ Err (TooManyElements start)
+too_many : (start : ℕ) (parts : List (List ℕ)) (bytes : List ℕ) → is_id (get_or parts 0 []) ≡ true → SEGMENT_ELEMENTS + 1 < length parts → with_parts (record { start = start; bytes = bytes; parts = parts }) ≡ Err (TooManyElements start)
 too_many start parts bytes id many =
-    let test : nat_lt 31 (length parts) ≡ true = grind (arith, nat_tests) in
+    let test : nat_lt (SEGMENT_ELEMENTS + 1) (length parts) ≡ true = grind (arith, nat_tests) in
     rw (id, test) refl
 
 pub next_of-fault : (left : Left) (fault : SegmentFault) → IsFault left fault → next_of left ≡ Err fault

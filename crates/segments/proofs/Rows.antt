@@ -11,6 +11,7 @@ use Rattle.dsd_values.specs.Answers.{Gives, UnlessMemory}
 use Rattle.segments.specs.Elements.{◌or_else◌}
 use Rattle.segments.specs.RowsWritten.{SetSoFar, after_writing, first_long, unless_long, with_rows}
 use Rattle.segments.specs.SegmentSpelling.{IsPart, IsSegment, is_id}
+use Rattle.segments.specs.declared.segment_write_fault.TheConstants.{SEGMENT_WRITTEN}
 use Rattle.segments.proofs.Written.{element_part, id_part}
 use Rattle.dsd_values.specs.Reading.{IsElementText}
 use Rattle.segments.specs.SegmentWriting.{line_of, text_of}
@@ -45,7 +46,7 @@ text_of-append (row ∷ rows) more = ap (λ (text : List ℕ). line_of row ++ te
 pub first_long-append : (rows more : List Row) → first_long (rows ++ more) ≡ (first_long rows or_else first_long more)
 first_long-append [] more = refl
 first_long-append (row ∷ rows) more =
-    elim (cases_Bool (nat_lt 245 (length (line_of row)))) [
+    elim (cases_Bool (nat_lt SEGMENT_WRITTEN (length (line_of row)))) [
       | inl long ↦ rw long refl
       | inr short ↦ rw short (first_long-append rows more)
     ]

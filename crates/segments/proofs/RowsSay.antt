@@ -21,6 +21,7 @@ use Rattle.segments.specs.SetWriting.{Row, allowance_elements, allowance_row, co
 use Rattle.segments.specs.declared.kind.Form.{Form}
 use Rattle.segments.specs.declared.kind.Form.TheVariants as forms
 use Rattle.segments.specs.declared.stated.StatedTotals.{StatedTotals}
+use Rattle.segments.specs.declared.texts.TheConstants.{MOST_CONTROL_NUMBER}
 use Rattle.segments.proofs.ControlNumbers.{control_between, control_element}
 use Rattle.segments.proofs.EmptyEnds.{trim_drop, trim_element, trim_tail}
 use Rattle.segments.proofs.PartedTexts.{IsTail, no_tail, tail_is}
@@ -269,7 +270,7 @@ set_code_element : (form : Form) → IsElementText (set_code form)
 set_code_element forms.Base = refl
 set_code_element forms.Answer = refl
 
-pub start_again : (form : Form) (control : ℕ) → control ≤ 999_999_999 → SaysAgain (IsStart (control_text control)) (start_row form control)
+pub start_again : (form : Form) (control : ℕ) → control ≤ MOST_CONTROL_NUMBER → SaysAgain (IsStart (control_text control)) (start_row form control)
 start_again form control small = record {
   says = λ place. (ap (word_between 4 9) (trim_element (start_row form control) 2) ∙ control_between control small, no_longer place 2 (start_row form control) refl);
   segment = row_segment (codes "ST") (set_code form ∷ control_text control ∷ []) [] 3 refl (set_code_element form, (control_element control (omega arith), tt)) (omega arith) (no_tail 3 (omega arith));

@@ -23,6 +23,7 @@ use Rattle.segments.specs.declared.kind.Form.TheVariants as forms
 use Rattle.segments.specs.declared.kind.Kind.{Kind}
 use Rattle.segments.specs.declared.kind.Kind.TheVariants as kinds
 use Rattle.segments.specs.declared.stated.StatedTotals.{StatedTotals}
+use Rattle.segments.specs.declared.texts.TheConstants.{MOST_CONTROL_NUMBER}
 use Rattle.segments.proofs.ControlNumbers.{control_filled}
 use Rattle.segments.proofs.EmptyEnds.{trim_element}
 use Rattle.segments.proofs.PartedTexts.{kept_again, kept_is, trimmed_segment}
@@ -63,7 +64,7 @@ pub record RowSays (form : Form) (kind : Kind) (Says : List Seg → Seg → Type
 pub record IsSealable (opened : List Row) (control : ℕ) : Type 0 where
   pub check : crc_of (text_of opened) < 2 ^ 16
   pub count : length opened + 2 < 10 ^ 15
-  pub small : control ≤ 999_999_999
+  pub small : control ≤ MOST_CONTROL_NUMBER
 
 -- the same, sealed with this control number and this check
 abbrev pub sealed_so : List ℕ → ℕ → Shared → Shared

@@ -12,6 +12,8 @@ use Rattle.segments.specs.RowsWritten.{first_long}
 use Rattle.segments.specs.SegmentSpelling.{IsPart, IsSegment, is_element_character}
 use Rattle.segments.specs.SegmentWriting.{IsLine, line_of, text_of, without_empty_end}
 use Rattle.segments.specs.SetWriting.{Row, control_text, integrity_row, sealed, sealing_rows, trailer_row}
+use Rattle.segments.specs.declared.segment_write_fault.TheConstants.{SEGMENT_WRITTEN}
+use Rattle.segments.specs.declared.texts.TheConstants.{MOST_CONTROL_NUMBER}
 use Rattle.segments.proofs.ControlNumbers.{control_element}
 use Rattle.segments.proofs.EmptyEnds.{trim_all}
 use Rattle.segments.proofs.Rows.{one_element, text_of-append, two_elements}
@@ -79,9 +81,9 @@ rows_few (row ∷ rows) =
 
 -- ---- the rows are lines
 
-short_row : (row : Row) (rows : List Row) → first_long (row ∷ rows) ≡ None → (length (line_of row) ≤ 245) × (first_long rows ≡ None)
+short_row : (row : Row) (rows : List Row) → first_long (row ∷ rows) ≡ None → (length (line_of row) ≤ SEGMENT_WRITTEN) × (first_long rows ≡ None)
 short_row row rows e =
-    elim (cases_Bool (nat_lt 245 (length (line_of row)))) [
+    elim (cases_Bool (nat_lt SEGMENT_WRITTEN (length (line_of row)))) [
       | inl long ↦ let no : Some (length (line_of row)) ≡ None = rw long at e in cc
       | inr short ↦ (grind (arith, nat_tests), rw short at e)
     ]
@@ -102,7 +104,7 @@ sealing_segments opened control s =
     (All-cons IsSegment trailer [] (two_elements (codes "SE") (number_text (length opened + 2)) (control_text control) refl (decimal_text_element (length opened + 2) (omega arith)) (control_element control (omega arith))) (All-nil IsSegment))
 
 -- rows that fit into a text of this size are sealed
-pub are_sealable : (opened : List Row) (control size : ℕ) → All IsSegment opened → length (text_of (sealed opened control)) ≤ size → size ≤ 262_144 → control ≤ 999_999_999 → IsSealable opened control
+pub are_sealable : (opened : List Row) (control size : ℕ) → All IsSegment opened → length (text_of (sealed opened control)) ≤ size → size ≤ 262_144 → control ≤ MOST_CONTROL_NUMBER → IsSealable opened control
 are_sealable opened control size h short most c =
     let sealing : List Row = sealing_rows (text_of opened) (length opened) control in
     let few = rows_few opened in

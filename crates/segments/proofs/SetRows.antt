@@ -16,6 +16,7 @@ use Rattle.segments.specs.declared.kind.Form.{Form}
 use Rattle.segments.specs.declared.kind.Kind.TheVariants as kinds
 use Rattle.segments.specs.declared.segment_write_fault.SegmentWriteFault.{SegmentWriteFault}
 use Rattle.segments.specs.declared.segment_write_fault.SegmentWriteFault.TheVariants.{LongSegment, Memory}
+use Rattle.segments.specs.declared.texts.TheConstants.{MOST_CONTROL_NUMBER}
 use Rattle.segments.proofs.RowKinds.{head_kind, kind_row, kind_with, start_kind}
 use Rattle.segments.proofs.Rows.{Answer, Answers, all_back, all_front, both_written, first_refused, long_rows, then_rows, was_written, were_written}
 use Rattle.segments.proofs.RowsSay.{SaysAgain, start_again}
@@ -29,7 +30,7 @@ use Rattle.segments.proofs.Written.{lines_spelled, lines_written}
 pub are_long : (segs : List Seg) → All IsLongSegment segs → All IsLong segs
 are_long segs all = λ k d inside. (all k d inside).segment
 
-start_says : (form : Form) (control : ℕ) → control ≤ 999_999_999 → RowSays form kinds.Start (λ _ seg. IsStart (control_text control) seg) (start_row form control)
+start_says : (form : Form) (control : ℕ) → control ≤ MOST_CONTROL_NUMBER → RowSays form kinds.Start (λ _ seg. IsStart (control_text control) seg) (start_row form control)
 start_says form control small =
     let again = start_again form control small in
     record {
@@ -53,7 +54,7 @@ module _ (opened : List Row) (form : Form) (control : ℕ) (IsHead : Seg → Typ
   }
 
   -- all rows of a set, sealed
-  pub set_shaped : control ≤ 999_999_999 → SaysAgain IsHead head → (texts : List (List ℕ)) (lines : List Line) (extras : List Extra) (t : Shared) → IsBehindHead form texts lines extras t.totals t.signature
+  pub set_shaped : control ≤ MOST_CONTROL_NUMBER → SaysAgain IsHead head → (texts : List (List ℕ)) (lines : List Line) (extras : List Extra) (t : Shared) → IsBehindHead form texts lines extras t.totals t.signature
       → Shaped opened control (FromStart form (control_text control) IsHead texts lines extras (resealed opened control t)) (start_row form control ∷ head ∷ (map kept_row texts ++ body_rows form lines extras t.totals t.signature))
   set_shaped small says texts lines extras t is =
       let later : List Row = map kept_row texts ++ body_rows form lines extras t.totals t.signature in
@@ -62,7 +63,7 @@ module _ (opened : List Row) (form : Form) (control : ℕ) (IsHead : Seg → Typ
       (row_shaped opened control form kinds.Head (λ _ seg. IsHead seg) target head later (head_says says) (behind_head_shaped opened control form texts lines extras t is))
 
   -- whatever segments are the set, these rows are it too, sealed anew
-  pub set_reshaped : ((seg : Seg) → IsLong seg → IsHead seg → SaysAgain IsHead head) → control ≤ 999_999_999 → (texts : List (List ℕ)) (lines : List Line) (extras : List Extra) (t : Shared)
+  pub set_reshaped : ((seg : Seg) → IsLong seg → IsHead seg → SaysAgain IsHead head) → control ≤ MOST_CONTROL_NUMBER → (texts : List (List ℕ)) (lines : List Line) (extras : List Extra) (t : Shared)
       → (before segs : List Seg) (done : List Row) → FromStart form t.control IsHead texts lines extras t before segs → All IsLong segs
       → opened ≡ done ++ (start_row form control ∷ head ∷ (map kept_row texts ++ body_rows form lines extras t.totals t.signature))
       → Reshaped opened control (FromStart form (control_text control) IsHead texts lines extras (resealed opened control t)) done (start_row form control ∷ head ∷ (map kept_row texts ++ body_rows form lines extras t.totals t.signature))
@@ -143,7 +144,7 @@ pub record AreSealed (opened : List Row) (control : ℕ) : Type 0 where
   pub spelled : SpellsSegments 0 (segments_of 0 (sealed opened control)) (text_of (sealed opened control))
   pub written : All IsWritten (segments_of 0 (sealed opened control))
 
-pub are_sealed : (opened : List Row) (control : ℕ) → control ≤ 999_999_999 → All IsSegment opened → first_long (sealed opened control) ≡ None → length (text_of (sealed opened control)) ≤ SET_BYTES → AreSealed opened control
+pub are_sealed : (opened : List Row) (control : ℕ) → control ≤ MOST_CONTROL_NUMBER → All IsSegment opened → first_long (sealed opened control) ≡ None → length (text_of (sealed opened control)) ≤ SET_BYTES → AreSealed opened control
 are_sealed opened control small all none short =
     let sealing : List Row = sealing_rows (text_of opened) (length opened) control in
     let sealable = are_sealable opened control SET_BYTES all short (omega arith) small in

@@ -12,14 +12,15 @@ use Rattle.segments.specs.declared.segment_fault.SegmentFault.TheVariants.{TooLo
 use Rattle.segments.specs.SegmentSpelling.{IsEnding, IsPart, is_element_character, is_inside, is_star}
 use Rattle.segments.specs.SegmentCut.{is_outside, body_length, limited, after_return, after_body, size_of, parts_of}
 use Rattle.segments.specs.PartEnds.{IsSpelled}
+use Rattle.segments.specs.declared.segment.TheConstants.{SEGMENT_BYTES}
 use Rattle.segments.proofs.Front.{body_length-take}
 
 -- ---- what follows a body
 
-limited_is : (start n size : ℕ) → limited start n ≡ Ok size → (size ≡ n) × (size ≤ 512)
+limited_is : (start n size : ℕ) → limited start n ≡ Ok size → (size ≡ n) × (size ≤ SEGMENT_BYTES)
 limited_is start n size h = grind (arith, nat_tests)
 
-is_feed : (start body size byte : ℕ) (more : List ℕ) → after_return start body (byte ∷ more) ≡ Ok size → (byte ≡ 10) × (size ≡ body + 2) × (size ≤ 512)
+is_feed : (start body size byte : ℕ) (more : List ℕ) → after_return start body (byte ∷ more) ≡ Ok size → (byte ≡ 10) × (size ≡ body + 2) × (size ≤ SEGMENT_BYTES)
 is_feed start body size byte more h =
     elim (cases_eq byte 10) [
       | inl same ↦ let l = limited_is start (body + 2) size (rw same at h) in (same, l.0, l.1)
@@ -30,13 +31,13 @@ no_feed : (start body size : ℕ) → after_return start body [] ≡ Ok size →
 no_feed start body size h = grind (arith, nat_tests)
 
 -- a CR is judged by what follows it, except where it is one byte too many itself
-past_return : (body size : ℕ) (long after : Result ℕ SegmentFault) → (long ≡ Ok size → ⊥) → cond (nat_eq body 512) long after ≡ Ok size → after ≡ Ok size
-past_return body size long after never h = elim (cases_Bool (nat_eq body 512)) [
+past_return : (body size : ℕ) (long after : Result ℕ SegmentFault) → (long ≡ Ok size → ⊥) → cond (nat_eq body SEGMENT_BYTES) long after ≡ Ok size → after ≡ Ok size
+past_return body size long after never h = elim (cases_Bool (nat_eq body SEGMENT_BYTES)) [
   | inl full ↦ absurd (never (rw full at h))
   | inr room ↦ rw room at h
 ]
 
-is_end : (start body size byte : ℕ) (more : List ℕ) → after_body start body (byte ∷ more) ≡ Ok size → ((byte ≡ 10) × (size ≡ body + 1) × (size ≤ 512)) ⊎ ((byte ≡ 13) × (after_return start body more ≡ Ok size))
+is_end : (start body size byte : ℕ) (more : List ℕ) → after_body start body (byte ∷ more) ≡ Ok size → ((byte ≡ 10) × (size ≡ body + 1) × (size ≤ SEGMENT_BYTES)) ⊎ ((byte ≡ 13) × (after_return start body more ≡ Ok size))
 is_end start body size byte more h =
     elim (cases_eq byte 10) [
       | inl same ↦ let l = limited_is start (body + 1) size (rw same at h) in inl (same, l.0, l.1)
@@ -51,7 +52,7 @@ record Ends (body long : ℕ) (after : List ℕ) : Type 0 where
   pub ending : List ℕ
   pub ends : IsEnding ending
   pub size : long ≡ body + length ending
-  pub short : long ≤ 512
+  pub short : long ≤ SEGMENT_BYTES
   pub there : after ≡ ending ++ drop (length ending) after
 
 ends_return : (start body size : ℕ) (more : List ℕ) → after_return start body more ≡ Ok size → Ends body size (13 ∷ more)
@@ -75,8 +76,8 @@ some_ending ending (inr return) = omega (arith, ap length return)
 size_behind : (start size : ℕ) (rest : List ℕ) → size_of start rest ≡ Ok size → after_body start (body_length rest) (drop (body_length rest) rest) ≡ Ok size
 size_behind start size rest h = behind_it start size (body_length rest) rest h
   where
-    behind_it : (start size body : ℕ) (rest : List ℕ) → cond (nat_lt 512 body) (Err (TooLong start)) (after_body start body (drop body rest)) ≡ Ok size → after_body start body (drop body rest) ≡ Ok size
-    behind_it start size body rest h = elim (cases_Bool (nat_lt 512 body)) [
+    behind_it : (start size body : ℕ) (rest : List ℕ) → cond (nat_lt SEGMENT_BYTES body) (Err (TooLong start)) (after_body start body (drop body rest)) ≡ Ok size → after_body start body (drop body rest) ≡ Ok size
+    behind_it start size body rest h = elim (cases_Bool (nat_lt SEGMENT_BYTES body)) [
       | inl long ↦ let e : Err (TooLong start) ≡ Ok size = rw long at h in cc
       | inr short ↦ rw short at h
     ]
@@ -129,7 +130,7 @@ parts_of-take n rest short =
 pub record IsSized (rest : List ℕ) (size : ℕ) : Type 0 where
   pub inside : size ≤ length rest
   pub body : body_length rest < size
-  pub short : size ≤ 512
+  pub short : size ≤ SEGMENT_BYTES
   pub spelled : IsSpelled (take size rest)
 
 pub sized : (start size : ℕ) (rest : List ℕ) → size_of start rest ≡ Ok size → IsSized rest size
@@ -152,7 +153,7 @@ sized start size rest h =
     let joined : join_with_byte 42 (parts_of (take size rest)) ≡ text = ap (join_with_byte 42) parts ∙ join_with_byte-slice_split 42 text in
     let characters : All IsPart (parts_of (take size rest)) = rw parts (are_parts text (body_inside rest)) in
     let spelled : take size rest ≡ join_with_byte 42 (parts_of (take size rest)) ++ e.ending = bytes ∙ ap (λ (l : List ℕ). l ++ e.ending) (sym joined) in
-    let short : length (take size rest) ≤ 512 = omega (arith, ap length bytes, e.short) in
+    let short : length (take size rest) ≤ SEGMENT_BYTES = omega (arith, ap length bytes, e.short) in
     record {
       inside = omega arith;
       body = under;

@@ -1,5 +1,5 @@
 -- What is lent is spelled at the front of what was left.
-use Rattle.std.proofs.Common.{◌≡◌, ℕ, ◌≤◌, Bool, true, false, cond, nat_eq, nat_lt, List, [], ◌∷◌, ◌++◌, length, take, drop, get_or, Result, Ok, Err, Option, Some, None, IfOk, IfSome, OnErr, inl, inr, refl, sym, ◌∙◌, ap, subst, arith}
+use Rattle.std.proofs.Common.{◌≡◌, ℕ, ◌≤◌, Bool, true, false, cond, nat_eq, nat_lt, List, [], ◌∷◌, ◌++◌, length, take, drop, get_or, Result, Ok, Err, Option, Some, None, IfOk, IfSome, OnErr, inl, inr, refl, sym, ◌∙◌, ap, subst, arith, ◌+◌}
 use Rattle.std.proofs.lemmas.Bool.{cases_Bool}
 use Rattle.std.proofs.lemmas.Bool.Decides.{nat_tests}
 use Rattle.std.proofs.lemmas.List.{take-append-drop, length-take-le}
@@ -8,28 +8,29 @@ use Rattle.segments.specs.declared.segment_fault.SegmentFault.TheVariants.{BadId
 use Rattle.segments.specs.Views.{Seg, Left}
 use Rattle.segments.specs.SegmentSpelling.{IsFront, is_id}
 use Rattle.segments.specs.SegmentCut.{size_of, parts_of, with_parts, seg_at, with_size, first_of, some_of, next_of, behind, left_by, left_after}
+use Rattle.segments.specs.declared.segment.TheConstants.{SEGMENT_ELEMENTS}
 use Rattle.segments.proofs.Sized.{IsSized, sized}
 
 -- what passes both tests
-few_parts : (seg v : Seg) → cond (nat_lt 31 (length seg.parts)) (Err (TooManyElements seg.start)) (Ok seg) ≡ Ok v → (v ≡ seg) × (nat_lt 31 (length seg.parts) ≡ false)
-few_parts seg v h = elim (cases_Bool (nat_lt 31 (length seg.parts))) [
+few_parts : (seg v : Seg) → cond (nat_lt (SEGMENT_ELEMENTS + 1) (length seg.parts)) (Err (TooManyElements seg.start)) (Ok seg) ≡ Ok v → (v ≡ seg) × (nat_lt (SEGMENT_ELEMENTS + 1) (length seg.parts) ≡ false)
+few_parts seg v h = elim (cases_Bool (nat_lt (SEGMENT_ELEMENTS + 1) (length seg.parts))) [
   | inl many ↦ let e : Err (TooManyElements seg.start) ≡ Ok v = rw many at h in cc
   | inr few ↦ let e : Ok seg ≡ Ok v = rw few at h in (cc, few)
 ]
 
-passed : (seg v : Seg) → with_parts seg ≡ Ok v → (v ≡ seg) × (is_id (get_or seg.parts 0 []) ≡ true) × (nat_lt 31 (length seg.parts) ≡ false)
+passed : (seg v : Seg) → with_parts seg ≡ Ok v → (v ≡ seg) × (is_id (get_or seg.parts 0 []) ≡ true) × (nat_lt (SEGMENT_ELEMENTS + 1) (length seg.parts) ≡ false)
 passed seg v h = elim (cases_Bool (is_id (get_or seg.parts 0 []))) [
   | inl id ↦ let p = few_parts seg v (rw id at h) in (p.0, id, p.1)
   | inr none ↦ let e : Err (BadId seg.start) ≡ Ok v = rw none at h in cc
 ]
 
-few_is : (n : ℕ) → nat_lt 31 n ≡ false → n ≤ 31
+few_is : (n : ℕ) → nat_lt (SEGMENT_ELEMENTS + 1) n ≡ false → n ≤ SEGMENT_ELEMENTS + 1
 few_is n h = grind (arith, nat_tests)
 
 sized_front : (place size : ℕ) (rest : List ℕ) (v : Seg) → IsSized rest size → with_parts (seg_at place (take size rest)) ≡ Ok v → IsFront v (record { rest = rest; place = place }) (behind (record { rest = rest; place = place }) (length v.bytes))
 sized_front place size rest v s h =
     let p = passed (seg_at place (take size rest)) v h in
-    let few : length (parts_of (take size rest)) ≤ 31 = few_is (length (parts_of (take size rest))) p.2 in
+    let few : length (parts_of (take size rest)) ≤ SEGMENT_ELEMENTS + 1 = few_is (length (parts_of (take size rest))) p.2 in
     let long : length (take size rest) ≡ size = length-take-le size rest s.inside in
     let old : Left = record { rest = rest; place = place } in
     let front : IsFront (seg_at place (take size rest)) old (behind old (length (take size rest))) = record {

@@ -14,6 +14,7 @@ use Rattle.dsd_values.proofs.Refusals.{all_pass}
 use Rattle.segments.specs.Views.{Seg}
 use Rattle.segments.specs.SegmentSpelling.{IsPart, IsSegment, SpellsSegment, SpellsSegments, is_element_character, is_id, is_id_byte, is_star}
 use Rattle.segments.specs.SegmentWriting.{Gains, IsLine, IsWritten, IsWrittenText, KeepsBegun, KeepsOpen, KeepsWriter, Written, begun_in, begun_with, ended, given, line_of, parts_of_begun, segment_of, segments_of, text_of, without_empty_end, written_in}
+use Rattle.segments.specs.declared.segment_write_fault.TheConstants.{SEGMENT_WRITTEN}
 use Rattle.segments.proofs.EmptyEnds.{trim_filled, trim_empty, trim_twice, trim_element, trim_length, trim_all}
 
 -- ---- parts
@@ -163,7 +164,7 @@ pub segment_spelled : (place : ℕ) (parts : List (List ℕ)) → IsLine parts �
 segment_spelled place parts line =
     let shorter = trim_length parts in
     let few = line.segment.few in
-    let short : length (line_of parts) ≤ 245 = line.short in
+    let short : length (line_of parts) ≤ SEGMENT_WRITTEN = line.short in
     record {
       segment = record {
         characters = trim_all IsPart parts line.segment.characters;
@@ -311,11 +312,11 @@ module _ (text : List ℕ) (place filled : ℕ) (k : KeepsWriter text place fill
       let sum = length-append joined (13 ∷ 10 ∷ []) in
       ap (λ (parts : List (List ℕ)). length (line_of parts)) (parts_behind begun) ∙ omega arith
 
-  line_is : (begun : IsSome old.begun) (short : filled - place + 2 ≤ 245) → IsLine (parts_of_begun old.begun)
+  line_is : (begun : IsSome old.begun) (short : filled - place + 2 ≤ SEGMENT_WRITTEN) → IsLine (parts_of_begun old.begun)
   line_is begun short =
       let kept = open_begun (drop place text) (filled - place) (some_behind begun) k.begun in
       let size = line_length begun in
-      let few : length (line_of (parts_of_begun old.begun)) ≤ 245 = omega arith in
+      let few : length (line_of (parts_of_begun old.begun)) ≤ SEGMENT_WRITTEN = omega arith in
       record { segment = subst IsSegment (sym (parts_behind begun)) kept.segment; short = few }
 
   pub filled_inside : filled ≤ length text
@@ -343,7 +344,7 @@ module _ (text : List ℕ) (place filled : ℕ) (k : KeepsWriter text place fill
       e ∙ ap (λ (l : List ℕ). l ++ 13 ∷ 10 ∷ []) cut ∙ append_assoc front (take (filled - place) (drop place text)) (13 ∷ 10 ∷ []) ∙ ap (λ (l : List ℕ). front ++ l) body
       ∙ ap (λ (parts : List (List ℕ)). front ++ line_of parts) (sym (parts_behind begun)) ∙ ap (λ (w : Written). w.text ++ line_of (parts_of_begun old.begun)) is
 
-  pub keeps_end : (new : List ℕ) → IsSome old.begun → filled - place + 2 ≤ 245 → new ≡ take filled text ++ 13 ∷ 10 ∷ [] → KeepsWriter new (length new) (length new)
+  pub keeps_end : (new : List ℕ) → IsSome old.begun → filled - place + 2 ≤ SEGMENT_WRITTEN → new ≡ take filled text ++ 13 ∷ 10 ∷ [] → KeepsWriter new (length new) (length new)
   keeps_end new begun short e =
       let before : IsWrittenText old.text = subst (λ (w : Written). IsWrittenText w.text) is k.written in
       let after : IsWrittenText new = subst IsWrittenText (sym (new_text new begun e)) (written_more old.text (parts_of_begun old.begun) before (line_is begun short)) in
@@ -362,7 +363,7 @@ module _ (text : List ℕ) (place filled : ℕ) (k : KeepsWriter text place fill
       ap (λ (l : List ℕ). seen l (begun_in (drop (length new) new))) (take-length new ∙ new_text new begun e)
       ∙ ap (λ (l : List ℕ). seen (old.text ++ line_of (parts_of_begun old.begun)) (begun_in l)) none
 
-  pub gains_end : IsSome old.begun → filled - place + 2 ≤ 245 → Gains (parts_of_begun old.begun) old.text (ended old).text
+  pub gains_end : IsSome old.begun → filled - place + 2 ≤ SEGMENT_WRITTEN → Gains (parts_of_begun old.begun) old.text (ended old).text
   gains_end begun short = gains_line old.text (parts_of_begun old.begun) (line_is begun short)
 
   -- nothing is begun: all is written

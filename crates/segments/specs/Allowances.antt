@@ -1,6 +1,6 @@
 -- Allowances and charges: what a G72 says, and which of its elements is refused. Places, kinds and widths are this
 -- project's profile.
-use Rattle.std.specs.Prelude.{◌≡◌, ℕ, Bool, true, not, ◌&&◌, ◌||◌, ◌==◌, IsTrue, List, [], length, Option, Some, None, is_some, Ok, if◌then◌else◌}
+use Rattle.std.specs.Prelude.{◌≡◌, ℕ, Bool, true, not, ◌&&◌, ◌||◌, ◌==◌, IsTrue, [], length, Option, Some, None, is_some, Ok, if◌then◌else◌}
 use Rattle.dsd_values.specs.Methods.{counts}
 use Rattle.dsd_values.specs.Reading.{cents_of, cost_of, percent_of, quantity_of, word_of, filled_word_of}
 use Rattle.dsd_values.specs.declared.allowance.Allowance.{Allowance}

@@ -1,6 +1,6 @@
 //! Allowances and charges, read from their segments.
 
-ghost use Rattle.std.specs.Prelude.{◌≡◌, None, IfOk, Ok, IsTrue};
+ghost use Rattle.std.specs.Prelude.{◌≡◌, None, IfOk, Ok};
 ghost use Rattle.dsd_values.specs.Answers.{UnlessMemory};
 ghost use Rattle.dsd_values.specs.Methods.{counts as changes_price};
 ghost use Rattle.dsd_values.specs.Reading.{cost_of, percent_of, quantity_of};

@@ -1,18 +1,18 @@
 //! The course of a set: what its segments say so far, one segment after another.
 
-ghost use Rattle.std.specs.Prelude.{◌≡◌, ℕ, ◌+◌, ◌<◌, ◌≤◌, List, [], ◌∷◌, ◌++◌, false, true, length, All, IfOk, OnErr, OnOk, MatchOption, None, Some, Err};
+mod round;
+
+ghost use Rattle.std.specs.Prelude.{◌≡◌, ◌+◌, ◌<◌, ◌≤◌, [], ◌∷◌, ◌++◌, false, true, length, All, IfOk, OnErr, OnOk, MatchOption, None, Some, Err};
 ghost use Rattle.block_check.specs.Crc16.{crc_from};
-ghost use Rattle.segments.specs.Tables.{line_in, integrity_in};
-ghost use Rattle.segments.specs.Kinds.{next_phase, is_done as done_at};
+ghost use Rattle.segments.specs.Tables.{line_in};
+ghost use Rattle.segments.specs.Kinds.{next_phase};
 ghost use Rattle.segments.specs.SoFar.{in_line, nothing, kept, moved, with_beside, with_line};
 ghost use Rattle.segments.specs.Allowances.{allowance_in};
 ghost use Rattle.segments.specs.Extras.{AreExtras, HasExtras, IsSized, allowances, kept_text};
 ghost use Rattle.segments.specs.Numbers.{HasRoom};
 ghost use Rattle.dsd_values.specs.declared.extra.Extra.TheVariants.{Allow, Note};
-ghost use Rattle.segments.specs.Views.{element_of};
-ghost use Rattle.segments.specs.Elements.{Reads};
 ghost use Rattle.segments.specs.Closing.{IsClosed, is_closed};
-ghost use Rattle.segments.specs.Reasons.{Says, at_segment, admission, allowance_reason, beside, has_line, item_reason, when, loop_end_fault, integrity_reason, trailer_reason, course_reason};
+ghost use Rattle.segments.specs.Reasons.{Says, admission, allowance_reason, beside, has_line, item_reason, when, course_reason};
 
 use crate::allowance::read_allowance;
 use crate::closing::{
@@ -105,6 +105,8 @@ impl Course {
     }
 
     /// Keeps what a segment of this kind says.
+    // Inlined, with the short texts of which a set may have many. The others are not: a body makes room ready for all that
+    // it may keep, whichever kind comes.
     #[inline(always)]
     #[tactic(auto, unfolding(crate::specs::SoFar::kept))]
     pub fn keep(&mut self, kind: Kind, segment: &Segment<'_>) -> Result<(), SetFault>
@@ -114,36 +116,31 @@ impl Course {
         ensures err { OnErr result (self.new ≡ self.old) }
     {
         match kind {
-            Kind::Start => self.control = at(segment, read_start(segment))?,
-            Kind::LoopStart => self.loop_id = at(segment, read_loop_start(segment))?,
-            Kind::Item => return self.keep_item(segment),
-            Kind::LoopEnd => at(segment, loop_end(segment, &self.loop_id))?,
-            Kind::Totals => return self.keep_totals(segment),
-            Kind::Signature => self.signature = Some(at(segment, read_signature(segment))?),
-            Kind::Integrity => self.integrity = integrity(segment, self.check.value())?,
-            Kind::Trailer => trailer(segment, &self.control, self.count + 1)?,
-            Kind::Reference => {
-                let text = at(segment, kept_at(self.alloc, segment))?;
-                push_text(&mut self.references, text)?;
-            }
-            Kind::Allowance => return self.keep_allowance(segment),
-            Kind::LineNote | Kind::Note => return self.keep_note(segment),
-            Kind::Head | Kind::Other => {}
+            Kind::Start => self.keep_start(segment),
+            Kind::Reference => self.keep_reference(segment),
+            Kind::LoopStart => self.keep_loop_start(segment),
+            Kind::Item => self.keep_item(segment),
+            Kind::Allowance => self.keep_allowance(segment),
+            Kind::LineNote | Kind::Note => self.keep_note(segment),
+            Kind::LoopEnd => self.keep_loop_end(segment),
+            Kind::Totals => self.keep_totals(segment),
+            Kind::Signature => self.keep_signature(segment),
+            Kind::Integrity => self.keep_integrity(segment),
+            Kind::Trailer => self.keep_trailer(segment),
+            Kind::Head | Kind::Other => Ok(()),
         }
-        Ok(())
     }
 
-    /// Keeps the stated totals.
+    /// Keeps a reference.
+    #[inline(always)]
     #[tactic(auto, unfolding(crate::specs::SoFar::kept))]
-    fn keep_totals(&mut self, segment: &Segment<'_>) -> Result<(), SetFault>
-        ensures said { Says result segment.now.start (course_reason self.old segment.now Kind.Totals)
-            (λ _. self.new ≡ kept self.old segment.now Kind.Totals self.old.phase self.old.count self.old.check) }
+    fn keep_reference(&mut self, segment: &Segment<'_>) -> Result<(), SetFault>
+        ensures said { Says result segment.now.start None
+            (λ _. self.new ≡ kept self.old segment.now Kind.Reference self.old.phase self.old.count self.old.check) }
         ensures err { OnErr result (self.new ≡ self.old) }
     {
-        match read_totals(segment) {
-            Ok(totals) => self.totals = totals,
-            Err(fault) => return at(segment, Err(fault)),
-        }
+        let text = kept_at(self.alloc, segment)?;
+        push_text(&mut self.references, text)?;
         Ok(())
     }
 
@@ -192,11 +189,12 @@ impl Course {
     }
 
     /// Keeps a note, behind the last line or at record level.
+    #[inline(always)]
     fn keep_note(&mut self, segment: &Segment<'_>) -> Result<(), SetFault>
         ensures said { Says result segment.now.start None (λ _. self.new ≡ with_beside (Note (kept_text segment.now)) self.old) }
         ensures err { OnErr result (self.new ≡ self.old) }
     {
-        let text = at(segment, kept_at(self.alloc, segment))?;
+        let text = kept_at(self.alloc, segment)?;
         self.push_extra(Extra::Note(text))?;
         Ok(())
     }
@@ -304,48 +302,5 @@ fn push_text(texts: &mut Vec<Kept>, text: Kept) -> Result<(), Memory>
     ensures err { OnErr result (texts.new.items ≡ texts.old.items) }
 {
     texts.push(text)?;
-    Ok(())
-}
-
-fn loop_end(segment: &Segment<'_>, loop_id: &Word) -> Result<(), ItemFault>
-    ensures { Reads result (loop_end_fault loop_id.now segment.now) (λ _. Unit {0}) }
-{
-    let again = word_between_at(segment, 1, 1, 6)?;
-    if again.as_slice() != loop_id.as_slice() {
-        return Err(ItemFault::Value {
-            element: 1,
-            fault: ValueFault::OutOfRange,
-        });
-    }
-    end_of_elements(segment, 1)
-}
-
-fn integrity(segment: &Segment<'_>, computed: u16) -> Result<Check, SetFault>
-    ensures { Says result segment.now.start (integrity_reason computed segment.now) (λ stated. stated ≡ integrity_in segment.now) }
-{
-    let said = at(segment, read_integrity(segment))?;
-    if said.get() != computed {
-        return refuse(
-            segment,
-            SetReason::Check {
-                said,
-                computed: Check::new(computed),
-            },
-        );
-    }
-    Ok(said)
-}
-
-fn trailer(segment: &Segment<'_>, control: &Word, found: usize) -> Result<(), SetFault>
-    ensures { Says result segment.now.start (trailer_reason control.now found segment.now) (λ _. Unit {0}) }
-{
-    let (said, again) = at(segment, read_trailer(segment))?;
-    let found = found as u64;
-    if said != found {
-        return refuse(segment, SetReason::Count { said, found });
-    }
-    if again.as_slice() != control.as_slice() {
-        return refuse(segment, SetReason::Control);
-    }
     Ok(())
 }

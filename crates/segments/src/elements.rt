@@ -1,20 +1,19 @@
 //! The elements of a segment, read one by one: each answers its value, or refuses its element by number.
 
-ghost use Rattle.std.specs.Prelude.{◌≡◌, ◌+◌, ◌<◌, ◌≤◌, ℕ, [], None, length, IfOk, OnOk, Ok, Err};
-ghost use Rattle.std.specs.List.{join_with_byte};
+ghost use Rattle.std.specs.Prelude.{◌≡◌, ◌+◌, ◌<◌, ◌≤◌, [], None, length, IfOk, Ok, Err};
 ghost use Rattle.dsd_values.specs.Answers.{UnlessMemory};
 ghost use Rattle.dsd_values.specs.Reading.{IsElementText, plain_number_of, dsd_of, quantity_of, total_quantity_of, cents_of, cost_of, check_of, word_of, filled_word_of, word_between};
 ghost use Rattle.segments.specs.Extras.{kept_text};
 ghost use Rattle.segments.specs.Views.{element_of};
 ghost use Rattle.segments.specs.declared.segment.TheConstants.{SEGMENT_ELEMENTS};
 ghost use Rattle.dsd_values.specs.declared.fault.ValueFault.TheVariants.{TooLong};
-ghost use Rattle.segments.specs.Elements.{Reads, at_element, said, optional, no_more, filled_from, tail_from, without_end_stars as trimmed};
+ghost use Rattle.segments.specs.Elements.{Reads, at_element, said, optional, no_more, tail_from, without_end_stars as trimmed};
 
 use crate::item_fault::ItemFault;
 use crate::segment::Segment;
 use dsd_values::{
-    Cents, Check, Cost, DsdNumber, KEPT_BYTES, Kept, KeptFault, Quantity, ValueFault, WORD_BYTES,
-    Word, read_cents, read_check, read_cost, read_dsd, read_number, read_quantity,
+    Cents, Check, Cost, DsdNumber, KEPT_BYTES, Kept, KeptFault, Memory, Quantity, ValueFault,
+    WORD_BYTES, Word, read_cents, read_check, read_cost, read_dsd, read_number, read_quantity,
     read_total_quantity, read_word_between,
 };
 use std::alloc::Global;
@@ -173,10 +172,10 @@ pub fn end_of_elements(segment: &Segment<'_>, last: usize) -> Result<(), ItemFau
 }
 
 /// The segment as it is kept: its id and elements, joined by `*`, without empty trailing ones.
-pub fn kept_at(alloc: Global, segment: &Segment<'_>) -> Result<Kept, ItemFault>
-    ensures { UnlessMemory ItemFault.Memory result (Ok (kept_text segment.now)) }
+pub fn kept_at(alloc: Global, segment: &Segment<'_>) -> Result<Kept, Memory>
+    ensures { IfOk result (λ text. text ≡ kept_text segment.now) }
 {
-    tail_at(alloc, segment, 0)
+    kept(alloc, segment.tail_from(0))
 }
 
 /// The elements from this number on, joined by `*`, without empty trailing ones.
@@ -189,18 +188,18 @@ pub fn tail_at(alloc: Global, segment: &Segment<'_>, first: usize) -> Result<Kep
     if tail.is_empty() {
         return Ok(Kept::empty());
     }
-    kept(alloc, tail)
+    Ok(kept(alloc, tail)?)
 }
 
 /// Keeps a text without the stars at its end.
 #[inline(never)]
-fn kept(alloc: Global, text: &[u8]) -> Result<Kept, ItemFault>
+fn kept(alloc: Global, text: &[u8]) -> Result<Kept, Memory>
     requires { length text.now ≤ KEPT_BYTES }
-    ensures { UnlessMemory ItemFault.Memory result (Ok (trimmed text.now)) }
+    ensures { IfOk result (λ kept. kept ≡ trimmed text.now) }
 {
     match Kept::new(alloc, without_end_stars(text)) {
         Ok(kept) => Ok(kept),
-        Err(KeptFault::Memory) => Err(ItemFault::Memory),
+        Err(KeptFault::Memory) => Err(Memory),
         Err(KeptFault::Long(_)) => unreachable!(),
     }
 }

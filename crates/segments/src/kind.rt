@@ -93,7 +93,8 @@ pub fn is_start_of(form: Form, segment: &Segment<'_>) -> bool
     has_id(segment, b"ST") && segment.element(1) == set_code(form)
 }
 
-fn has_id(segment: &Segment<'_>, id: &[u8]) -> bool
+/// Whether the segment has this id.
+pub fn has_id(segment: &Segment<'_>, id: &[u8]) -> bool
     ensures { result ≡ starts_with_id segment.now id.now }
 {
     segment.id() == id

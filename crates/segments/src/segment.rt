@@ -158,12 +158,12 @@ fn tail_at<'a>(bytes: &'a [u8], ends: &[u16], number: usize) -> &'a [u8]
     )
 }
 
-/// What stands from one place up to another.
-fn between(text: &[u8], start: usize, end: usize) -> &[u8]
+/// What stands from one place of a text up to another.
+pub fn between(text: &[u8], start: usize, end: usize) -> &[u8]
     requires ordered { start ≤ end }
     requires inside { end ≤ length text.now }
     ensures value { result.now ≡ take (end - start) (drop start text.now) }
-    ensures short { length result.now ≤ length text.now }
+    ensures whole { start + length result.now ≡ end }
 {
     &text[start..end]
 }

@@ -1,6 +1,5 @@
 ghost use Rattle.std.specs.Prelude.{ℕ, true, false, ◌≡◌, ◌≢◌, ◌+◌, ◌<◌, ◌≤◌, if◌then◌else◌, [], ◌∷◌, ◌++◌, length, slice_index, slice_index_or, take};
 ghost use Rattle.std.specs.Int.{bit_at};
-ghost use Rattle.arrayvec.specs.ArrayVec.{array_vec_len};
 ghost use Rattle.segments.specs.PartEnds.{IsFirstBit, ends_from};
 ghost use Rattle.segments.specs.SegmentCut.{body_length, is_outside, parts_of};
 ghost use Rattle.segments.specs.SegmentSpelling.{is_star};
@@ -25,6 +24,7 @@ pub struct Body {
 
 /// The body at the front of these bytes, found in one pass: a block of bytes is looked at together, and then only those
 /// that end a part. Past the end of the bytes a block has zeros, which are outside.
+#[inline(always)]
 pub fn body_at(front: &[u8]) -> Body
     requires { length front.now ≤ SEGMENT_BYTES + 1 }
     ensures length { result.length ≡ body_length front.now }

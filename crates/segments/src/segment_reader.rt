@@ -1,4 +1,4 @@
-ghost use Rattle.std.specs.Prelude.{[], IfOk, IfSome, OnErr, drop, length, take, ◌+◌, ◌<◌, ◌^◌, ◌↔◌, ◌≡◌, ◌≤◌, ◌++◌};
+ghost use Rattle.std.specs.Prelude.{[], IfOk, IfSome, OnErr, drop, length, take, ◌+◌, ◌<◌, ◌^◌, ◌↔◌, ◌≡◌, ◌≤◌};
 ghost use Rattle.segments.specs.SegmentCut.{after_body, body_length, first_of, left_after, limited as within_limit, next_of, size_of, text_start};
 ghost use Rattle.segments.specs.SegmentSpelling.{IsFront};
 ghost use Rattle.segments.specs.SegmentRefusal.{IsFault};

@@ -1,9 +1,8 @@
 //! An answer applied to a version.
 
-ghost use Rattle.std.specs.Prelude.{◌≡◌, ◌≢◌, ◌≤◌, [], All, Ok, OnErr, OnOk, length, true, false};
+ghost use Rattle.std.specs.Prelude.{◌≡◌, ◌≢◌, [], All, Ok, OnErr, OnOk, true, false};
 ghost use Rattle.adjustment_895.specs.Grammar.{has_none};
 ghost use Rattle.dsd_values.specs.Answers.{UnlessMemory};
-ghost use Rattle.dsd_values.specs.declared.limits.TheConstants.{MOST_LINES as MOST};
 ghost use Rattle.segments.specs.Extras.{AreExtras, HasExtras};
 ghost use Rattle.dsd_record.specs.Applying.{Applies, Refuses, adjusted, applied, apply_fault, is_same_flag, lines_after, naming_fault, refused_by, rows_fault, totals_fault};
 ghost use Rattle.dsd_record.specs.Chain.{GoesOn};

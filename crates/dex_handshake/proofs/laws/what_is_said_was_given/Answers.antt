@@ -1,4 +1,3 @@
-use Rattle.std.proofs.Common.{ℕ, List}
 use Rattle.dex_handshake.specs.LineRun.{load_of}
 use Rattle.dex_handshake.specs.LineTable.{Finished}
 use Rattle.dex_handshake.specs.Sound.{AnyText, IsOwnFrame}

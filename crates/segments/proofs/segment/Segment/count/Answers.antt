@@ -1,6 +1,7 @@
-use Rattle.std.proofs.Common.{◌≤◌, ◌∙◌, ap, arith, length}
+use Rattle.std.proofs.Common.{◌≤◌, ◌∙◌, ap, arith, length, ◌+◌}
 use Rattle.segments.specs.SegmentCut.{parts_of}
 use Rattle.segments.specs.Views.{Seg}
+use Rattle.segments.specs.declared.segment.TheConstants.{SEGMENT_ELEMENTS}
 use Rattle.segments.proofs.Parted.{length-ends_from}
 use Rattle.segments.proofs.Scan.{some_of-parts}
 use Rattle.segments.proofs.segment.Segment.count.Goals as goal
@@ -15,5 +16,5 @@ returns-clause-value c =
 pub returns-clause-few : goal.returns-clause-few
 returns-clause-few c =
     let many = ap length c.self.invariant.parted ∙ length-ends_from 0 (parts_of c.self.inside.bytes.now) in
-    let few : length (parts_of c.self.inside.bytes.now) ≤ 31 = c.self.invariant.spelled.segment.few in
+    let few : length (parts_of c.self.inside.bytes.now) ≤ SEGMENT_ELEMENTS + 1 = c.self.invariant.spelled.segment.few in
     omega arith

@@ -1,5 +1,6 @@
 use Rattle.std.proofs.Common.{◌≤◌, ◌∙◌, ap, arith, length}
 use Rattle.segments.specs.Views.{Seg, element_of}
+use Rattle.segments.specs.declared.segment.TheConstants.{SEGMENT_BYTES}
 use Rattle.segments.proofs.Parted.{part_past}
 use Rattle.segments.proofs.segment.Segment.element.Goals as goal
 
@@ -10,6 +11,6 @@ returns-then-number-len-clause-value c =
 
 pub returns-clause-short : goal.returns-clause-short
 returns-clause-short c =
-    let short : length c.self.inside.bytes.now ≤ 512 = c.self.invariant.spelled.short in
+    let short : length c.self.inside.bytes.now ≤ SEGMENT_BYTES = c.self.invariant.spelled.short in
     let less = c.part_at.ensures.short in
     omega arith

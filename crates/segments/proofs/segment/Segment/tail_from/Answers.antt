@@ -1,6 +1,7 @@
 use Rattle.std.proofs.Common.{◌≤◌, ◌∙◌, ap, arith, length, drop}
 use Rattle.std.specs.List.{join_with_byte}
 use Rattle.segments.specs.Views.{Seg}
+use Rattle.segments.specs.declared.segment.TheConstants.{SEGMENT_BYTES}
 use Rattle.segments.proofs.Parted.{tail_past}
 use Rattle.segments.proofs.segment.Segment.tail_from.Goals as goal
 
@@ -11,6 +12,6 @@ returns-then-number-len-clause-value c =
 
 pub returns-clause-short : goal.returns-clause-short
 returns-clause-short c =
-    let short : length c.self.inside.bytes.now ≤ 512 = c.self.invariant.spelled.short in
+    let short : length c.self.inside.bytes.now ≤ SEGMENT_BYTES = c.self.invariant.spelled.short in
     let less = c.tail_at.ensures.short in
     omega arith
