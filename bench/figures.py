@@ -3,8 +3,8 @@
 
 Makes large inputs, runs the program on each, and prints what it took: instructions (counted by
 callgrind), instructions a byte, and peak memory. Then it measures adjustments of 10 to 999 lines with
-the program bench_versions, the sets of a transmission one by one, and a session of the line with the
-program bench_line. It judges nothing and always ends with status 0. PROGRAM is crates/dex/out/dex where none is given.
+the program bench_versions, the sets of a transmission one by one, a session of the line with the
+program bench_line, and entries of a journal with bench_journal. It judges nothing and always ends with status 0. PROGRAM is crates/dex/out/dex where none is given.
 """
 import os
 import re
@@ -244,6 +244,22 @@ def measure_line(program, folder):
         print("%s: %d instructions beside %s, %.2f a byte" % (more, beside, less, beside / size))
 
 
+def measure_journal(program, folder):
+    """What entries ask of a station behind one gate, and the time that 400 take in a file, one by one and behind one gate."""
+    if not os.access(program, os.X_OK):
+        print("\nno program at", program, "- build it with: cd crates/bench_journal && rt run")
+        return
+    print()
+    print(subprocess.run([program], capture_output=True, text=True).stdout, end="")
+    for way in ("append", "flush"):
+        took = []
+        for run_number in range(5):
+            start = time.monotonic()
+            subprocess.run([program, way, "400", os.path.join(folder, "%s%d.dex" % (way, run_number))], stdout=subprocess.DEVNULL)
+            took.append(time.monotonic() - start)
+        print("400 entries by %s: %.1f ms, the median of five runs" % (way, 1000 * sorted(took)[2]))
+
+
 def main():
     program = os.path.abspath(sys.argv[1]) if len(sys.argv) > 1 else os.path.join(HOME, "crates", "dex", "out", "dex")
     if not os.access(program, os.X_OK):
@@ -254,6 +270,7 @@ def main():
         measure_sets(program, folder)
         measure_versions(os.path.join(HOME, "crates", "bench_versions", "out", "bench_versions"), folder)
         measure_line(os.path.join(HOME, "crates", "bench_line", "out", "bench_line"), folder)
+        measure_journal(os.path.join(HOME, "crates", "bench_journal", "out", "bench_journal"), folder)
 
 
 if __name__ == "__main__":
