@@ -5,3 +5,17 @@ pub mod Agreeing
 pub mod Chained
 pub mod Listed
 pub mod Stays
+pub mod Parity
+pub mod Founded
+pub mod TakeExact
+pub mod Grown
+pub mod SignExact
+pub mod StandExact
+pub mod Indexed
+pub mod Behind
+pub mod Bodies
+pub mod Allowed
+pub mod Rebuilt
+pub mod Judged
+pub mod Known
+pub mod Signed

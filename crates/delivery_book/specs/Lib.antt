@@ -3,3 +3,13 @@ pub mod Standing
 pub mod Signing
 pub mod Finals
 pub mod Agreement
+pub mod Lookups
+pub mod Answering
+pub mod Refusals
+pub mod Outcomes
+pub mod Index
+pub mod StandFaults
+pub mod Changes
+pub mod Takings
+pub mod Signatures
+pub mod Admissions
