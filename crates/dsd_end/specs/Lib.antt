@@ -1,0 +1,15 @@
+pub mod Runs
+pub mod Speaking
+pub mod Carrying
+pub mod Sealing
+pub mod Lives
+pub mod Cabling
+pub mod Agreement
+pub mod Choosing
+pub mod DueSets
+pub mod OwnTurn
+pub mod Standings
+pub mod PollStep
+pub mod PollsHeard
+pub mod TurnsGrow
+pub mod SoFar
