@@ -1,0 +1,4 @@
+mod Cutting
+pub mod Keyed
+pub mod Counts
+pub mod Reading

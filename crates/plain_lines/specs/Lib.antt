@@ -1,0 +1,4 @@
+pub mod PlainText
+pub mod Refusing
+pub mod Keyed
+pub mod Counting

@@ -1,0 +1,6 @@
+mod Known
+mod Differing
+mod Chosen
+mod Loops
+mod Said
+mod Again

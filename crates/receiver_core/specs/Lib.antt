@@ -1,0 +1,3 @@
+pub mod CountTexts
+pub mod Reading
+pub mod Choosing
