@@ -1,5 +1,5 @@
 -- Counted lines: a quantity and a cost under a line's number. The counters of a draft and the items of a count are such.
-use Rattle.std.specs.Prelude.{◌≡◌, ◌≤◌, ℕ, nat_eq, nat_le, Bool, true, List, [], ◌∷◌, ◌++◌, length, codes, Option, if◌then◌else◌, Result, Ok}
+use Rattle.std.specs.Prelude.{◌≡◌, ◌≤◌, ℕ, nat_eq, nat_le, Bool, true, List, [], ◌∷◌, ◌++◌, length, codes, Option, Result, Ok}
 use Rattle.std.specs.List.{All}
 use Rattle.dsd_values.specs.Reading.{cost_of, dsd_of, quantity_of}
 use Rattle.dsd_values.specs.declared.cost.TheConstants.Cost.{MAX as MOST_COST}

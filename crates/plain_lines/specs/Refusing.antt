@@ -46,6 +46,11 @@ abbrev pub ◌>>=◌ : {A B : Type 0} → Result A DraftFault → (A → Result 
 (Ok a) >>= f = f a
 (Err fault) >>= f = Err fault
 
+-- the line signs so: a mark, and no name
+pub record SaysSignature (signature : SignatureRecord) (line : LineSeen) : Type 0 where
+  pub mark : word_between 1 MARK_BYTES (word_of_line line 1) ≡ Ok signature.mark
+  pub name : signature.name ≡ []
+
 -- what a line that signs says: a mark, and no name
 abbrev pub signature_in : LineSeen → Result SignatureRecord DraftFault
 signature_in line = do

@@ -1,60 +1,25 @@
 -- What a text says is read of it.
-use Rattle.std.proofs.Common.{◌≡◌, ◌<◌, ℕ, bytes_eq, nat_eq, nat_le, Bool, true, false, List, [], ◌∷◌, ◌++◌, length, map, codes, Option, None, Result, Ok, if◌then◌else◌, refl, sym, ap, subst, ◌∙◌, arith, append_assoc, append-nil, length-append}
+use Rattle.std.proofs.Common.{◌≡◌, ◌<◌, ℕ, bytes_eq, nat_eq, nat_le, Bool, true, false, List, [], ◌∷◌, ◌++◌, length, map, codes, Result, Ok, if◌then◌else◌, refl, sym, ap, subst, ◌∙◌, arith, append_assoc, append-nil, length-append}
 use Rattle.std.specs.List.{All, flat_map}
-use Rattle.std.proofs.lemmas.Bool.Decides.{nat_tests}
 use Rattle.std.proofs.lemmas.List.Elements.{All-head, All-tail}
 use Rattle.std.proofs.lemmas.Slice.Eq.{bytes_eq-Decides}
 use Rattle.dsd_values.specs.Answers.{UnlessMemory}
-use Rattle.dsd_values.specs.Reading.{cost_of, delivery_number_of, dsd_of, quantity_of, word_between}
+use Rattle.dsd_values.specs.Reading.{delivery_number_of}
 use Rattle.dsd_values.specs.SignatureRecord.{SignatureRecord}
-use Rattle.dsd_values.specs.declared.fault.ValueFault.{ValueFault}
 use Rattle.dsd_record.specs.declared.draft_fault.DraftFault.{DraftFault}
 use Rattle.dsd_record.specs.declared.draft_fault.DraftFault.TheVariants.{Memory}
-use Rattle.dsd_record.specs.declared.draft_fault.DraftReason.{DraftReason}
-use Rattle.plain_lines.specs.Counting.{AreCounts as AreRight, SaysCounted, counted_in, counts_with, is_counted, number_of as number_of_counted, unless_counted}
+use Rattle.plain_lines.specs.Counting.{AreCounts as AreRight, SaysCounted, counts_with, is_counted, number_of as number_of_counted}
 use Rattle.plain_lines.specs.PlainText.{LineSeen, leads, lines_in, piece_of, word_of_line}
-use Rattle.plain_lines.specs.Refusing.{◌>>=◌, IsLed, misplaced, refused_if, said_by, signature_in, unless, value_at}
+use Rattle.plain_lines.specs.Refusing.{IsLed, SaysSignature, misplaced, said_by, signature_in, value_at}
 use Rattle.plain_lines.specs.declared.counted.Counted.{Counted}
 use Rattle.plain_lines.proofs.Keyed.{last_apart, prefix_apart, turned_numbers, turned_texts}
-use Rattle.receiver_core.specs.CountTexts.{AreCounts, Entry, Item, End, Say, Says, SaysSignature, answer_text, entries_of, is_known, number_of}
+use Rattle.receiver_core.specs.CountTexts.{AreCounts, Entry, Item, End, Say, Says, answer_text, entries_of, is_known, number_of}
 use Rattle.receiver_core.specs.Reading.{SoFar, answer_of, begun, count_step, counts_of, finished, nothing, with_end, with_item}
 use Rattle.receiver_core.specs.declared.count.Count.{Count}
 use Rattle.receiver_core.specs.declared.reading.Part.TheVariants as parts
-use Rattle.receiver_core.proofs.Said.{placed}
+use Rattle.plain_lines.proofs.Unrefused.{few_below, go_bind, go_passed, go_unless, go_value, placed, signature_again, with_again}
 
--- ---- one line: nothing is refused
-
-go_unless : {X : Type 0} (reason : Option DraftReason) (line : LineSeen) (rest : Result X DraftFault) → reason ≡ None → unless reason line rest ≡ rest
-go_unless reason line rest e = ap (λ (r : Option DraftReason). unless r line rest) e
-
-go_passed : {X : Type 0} (test : Bool) (line : LineSeen) (reason : DraftReason) (rest : Result X DraftFault) → test ≡ false → refused_if test line reason rest ≡ rest
-go_passed test line reason rest e = ap (λ (b : Bool). refused_if b line reason rest) e
-
-go_bind : {A B : Type 0} (r : Result A DraftFault) (f : A → Result B DraftFault) (a : A) → r ≡ Ok a → (r >>= f) ≡ f a
-go_bind r f a e = ap (λ (x : Result _ DraftFault). x >>= f) e
-
-go_value : {V : Type 0} (line : LineSeen) (number : ℕ) (r : Result V ValueFault) (v : V) → r ≡ Ok v → value_at line number r ≡ Ok v
-go_value line number r v e = ap (value_at line number) e
-
-counted_again : (line : LineSeen) (counted : Counted) → SaysCounted counted line → counted_in line ≡ Ok counted
-counted_again line counted says =
-    go_bind (value_at line 1 (dsd_of (word_of_line line 1))) _ counted.dsd (go_value line 1 _ counted.dsd says.dsd)
-    ∙ go_bind (value_at line 2 (quantity_of (word_of_line line 2))) _ counted.quantity (go_value line 2 _ counted.quantity says.quantity)
-    ∙ go_bind (value_at line 3 (cost_of (word_of_line line 3))) _ counted.cost (go_value line 3 _ counted.cost says.cost)
-
-few_below : (n most : ℕ) → n < most → nat_le most n ≡ false
-few_below n most below = grind (arith, nat_tests)
-
-with_again : (counts : List Counted) (line : LineSeen) (counted : Counted) → SaysCounted counted line → is_counted counted.dsd counts ≡ false → length counts < 999 → counts_with counts line ≡ Ok (counts ++ counted ∷ [])
-with_again counts line counted says fresh room =
-    go_passed (nat_le 999 (length counts)) line _ (counted_in line >>= unless_counted counts line) (few_below (length counts) 999 room)
-    ∙ go_bind (counted_in line) (unless_counted counts line) counted (counted_again line counted says)
-    ∙ go_passed (is_counted counted.dsd counts) line _ (Ok (counts ++ counted ∷ [])) fresh
-
-signature_again : (line : LineSeen) (signature : SignatureRecord) → SaysSignature signature line → signature_in line ≡ Ok signature
-signature_again line signature says =
-    go_bind (value_at line 1 (word_between 1 12 (word_of_line line 1))) _ signature.mark (go_value line 1 _ signature.mark says.mark)
-    ∙ ap (λ (name : List ℕ). Ok (let s : SignatureRecord = record { mark = signature.mark; name = name } in s)) (sym says.name)
+-- ---- one line
 
 answer_again : (counters : Bool) → answer_of (answer_text counters) ≡ Ok counters
 answer_again true = refl

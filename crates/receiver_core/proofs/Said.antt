@@ -1,24 +1,22 @@
 -- What is read of a text is what the text says.
-use Rattle.std.proofs.Common.{◌≡◌, ◌<◌, ◌≤◌, inl, inr, IfOk, ℕ, bytes_eq, nat_eq, nat_le, Bool, true, false, List, [], ◌∷◌, ◌++◌, length, map, codes, Option, Some, None, Result, Ok, Err, if◌then◌else◌, refl, sym, ap, subst, ◌∙◌, arith, append_assoc, append-nil, length-append}
+use Rattle.std.proofs.Common.{◌≡◌, ◌<◌, inl, inr, IfOk, ℕ, bytes_eq, nat_le, Bool, true, false, List, [], ◌∷◌, ◌++◌, length, map, codes, Result, Ok, Err, if◌then◌else◌, refl, sym, ap, subst, ◌∙◌, arith, append_assoc, append-nil}
 use Rattle.std.specs.List.{flat_map}
 use Rattle.std.proofs.lemmas.List.{map-append}
 use Rattle.std.proofs.lemmas.Grind.{flat_map-append}
 use Rattle.std.proofs.lemmas.Bool.Decides.{nat_tests}
-use Rattle.std.proofs.lemmas.List.Elements.{All-append, All-cons, All-nil}
+use Rattle.std.proofs.lemmas.List.Elements.{All-nil}
 use Rattle.std.proofs.lemmas.Slice.Eq.{bytes_eq-Decides}
-use Rattle.dsd_values.specs.Reading.{cost_of, delivery_number_of, dsd_of, number_of, quantity_of, word_between}
-use Rattle.dsd_values.proofs.Laws.{decimal_of_spelled, number_spelled}
+use Rattle.dsd_values.specs.Reading.{delivery_number_of, word_between}
 use Rattle.dsd_values.specs.Answers.{UnlessMemory}
 use Rattle.dsd_values.specs.SignatureRecord.{SignatureRecord}
 use Rattle.dsd_values.specs.declared.fault.ValueFault.{ValueFault}
 use Rattle.dsd_values.specs.declared.fault.ValueFault.TheVariants.{OutOfRange}
 use Rattle.dsd_record.specs.declared.draft_fault.DraftFault.{DraftFault}
 use Rattle.dsd_record.specs.declared.draft_fault.DraftFault.TheVariants.{Memory}
-use Rattle.dsd_record.specs.declared.draft_fault.DraftReason.{DraftReason}
-use Rattle.plain_lines.specs.Counting.{AreCounts as AreRight, IsRightCounted, SaysCounted, counted_in, counts_with, is_counted, number_of as number_of_counted, unless_counted}
-use Rattle.plain_lines.proofs.Keyed.{apart_more, turned_numbers}
-use Rattle.plain_lines.specs.PlainText.{LineSeen, has_words, leads, lines_in, word_of_line}
-use Rattle.plain_lines.specs.Refusing.{◌>>=◌, IsLed, misplaced, refused_if, said_by, signature_in, unless, value_at}
+use Rattle.plain_lines.specs.Counting.{AreCounts as AreRight, counts_with}
+use Rattle.plain_lines.proofs.Unrefused.{bind_ok, led, ok_same, one_more, passed, unless_ok, value_ok}
+use Rattle.plain_lines.specs.PlainText.{LineSeen, leads, lines_in, word_of_line}
+use Rattle.plain_lines.specs.Refusing.{misplaced, said_by, signature_in, value_at}
 use Rattle.plain_lines.specs.declared.counted.Counted.{Counted}
 use Rattle.receiver_core.specs.CountTexts.{AreCounts, Entry, Number, Sign, Counters, Item, End, Say, Says, SaysEntry, answer_text, entries_of, is_known}
 use Rattle.receiver_core.specs.Reading.{IsBegun, SoFar, answer_of, count_step, counts_of, finished, in_part, nothing, with_end, with_item}
@@ -26,96 +24,6 @@ use Rattle.receiver_core.proofs.Known.{counts_more}
 use Rattle.receiver_core.specs.declared.count.Count.{Count}
 use Rattle.receiver_core.specs.declared.reading.Part.{Part}
 use Rattle.receiver_core.specs.declared.reading.Part.TheVariants as parts
-
--- ---- one line: what was not refused
-
-record Unrefused {X : Type 0} (reason : Option DraftReason) (rest : Result X DraftFault) (x : X) : Type 0 where
-  none : reason ≡ None
-  is : rest ≡ Ok x
-
-unless_ok : {X : Type 0} (reason : Option DraftReason) (line : LineSeen) (rest : Result X DraftFault) (x : X) → unless reason line rest ≡ Ok x → Unrefused reason rest x
-unless_ok (Some reason) line rest x e = cc (e)
-unless_ok None line rest x e = record { none = refl; is = e }
-
-led_by : (a b : Bool) (line : LineSeen) (word : List ℕ) (count : ℕ) (reason other : DraftReason) → leads line word ≡ a → has_words line count ≡ b → (if a then (if b then None else Some reason) else Some other) ≡ None → IsLed line word count
-led_by true true line word count reason other p q e = record { leading = p; words = q }
-led_by true false line word count reason other p q e = cc (e)
-led_by false b line word count reason other p q e = cc (e)
-
-led : (line : LineSeen) (word : List ℕ) (count : ℕ) → misplaced line word count ≡ None → IsLed line word count
-led line word count e = led_by (leads line word) (has_words line count) line word count _ _ refl refl e
-
-pub placed : (line : LineSeen) (word : List ℕ) (count : ℕ) → IsLed line word count → misplaced line word count ≡ None
-placed line word count is = rw (is.leading, is.words) refl
-
-record Bound {A B : Type 0} (r : Result A DraftFault) (f : A → Result B DraftFault) (b : B) : Type 0 where
-  value : A
-  is : r ≡ Ok value
-  goes_on : f value ≡ Ok b
-
-bind_ok : {A B : Type 0} (r : Result A DraftFault) (f : A → Result B DraftFault) (b : B) → (r >>= f) ≡ Ok b → Bound r f b
-bind_ok (Ok a) f b e = record { value = a; is = refl; goes_on = e }
-bind_ok (Err fault) f b e = cc (e)
-
-value_ok : {V : Type 0} (line : LineSeen) (number : ℕ) (r : Result V ValueFault) (v : V) → value_at line number r ≡ Ok v → r ≡ Ok v
-value_ok line number (Ok x) v e = let same : x ≡ v = cc (e) in ap (λ (y : _). Ok y) same
-value_ok line number (Err fault) v e = cc (e)
-
-record Passed {X : Type 0} (test : Bool) (rest : Result X DraftFault) (x : X) : Type 0 where
-  none : test ≡ false
-  is : rest ≡ Ok x
-
-passed : {X : Type 0} (test : Bool) (line : LineSeen) (reason : DraftReason) (rest : Result X DraftFault) (x : X) → refused_if test line reason rest ≡ Ok x → Passed test rest x
-passed true line reason rest x e = cc (e)
-passed false line reason rest x e = record { none = refl; is = e }
-
-ok_same : {X : Type 0} (a b : X) → (let r : Result X DraftFault = Ok a in r) ≡ Ok b → a ≡ b
-ok_same a b e = cc (e)
-
-counted_ok : (line : LineSeen) (counted : Counted) → counted_in line ≡ Ok counted → has_words line 4 ≡ true → SaysCounted counted line
-counted_ok line counted e words =
-    let a = bind_ok (value_at line 1 (dsd_of (word_of_line line 1))) _ counted e in
-    let b = bind_ok (value_at line 2 (quantity_of (word_of_line line 2))) _ counted a.goes_on in
-    let d = bind_ok (value_at line 3 (cost_of (word_of_line line 3))) _ counted b.goes_on in
-    subst (λ (x : Counted). SaysCounted x line) (ok_same _ counted d.goes_on)
-    (record { words = words; dsd = value_ok line 1 _ a.value a.is; quantity = value_ok line 2 _ b.value b.is; cost = value_ok line 3 _ d.value d.is })
-
-number_within : (low high : ℕ) (text : List ℕ) (n : ℕ) → number_of low high text ≡ Ok n → (low ≤ n) × (n ≤ high)
-number_within low high text n e = let is = (number_spelled low high text (number_of low high text) refl n).0 e in (is.at_least, is.at_most)
-
-counted_right : (line : LineSeen) (counted : Counted) → SaysCounted counted line → IsRightCounted counted
-counted_right line counted says =
-    let dsd = number_within 1 9_999 (word_of_line line 1) counted.dsd says.dsd in
-    record {
-      least = dsd.0;
-      most = dsd.1;
-      quantity = (number_within 0 99_999 (word_of_line line 2) counted.quantity says.quantity).1;
-      cost = ((decimal_of_spelled 4 999_999_999 (word_of_line line 3) (cost_of (word_of_line line 3)) refl counted.cost).0 says.cost).at_most;
-    }
-
-more_right : (counts : List Counted) (counted : Counted) → AreRight counts → IsRightCounted counted → is_counted counted.dsd counts ≡ false → length counts < 999 → AreRight (counts ++ counted ∷ [])
-more_right counts counted are right none room = record {
-  right = All-append IsRightCounted counts (counted ∷ []) are.right (All-cons IsRightCounted counted [] right (All-nil IsRightCounted));
-  apart = apart_more nat_eq turned_numbers number_of_counted counts counted are.apart none;
-  few = omega (arith, length-append counts (counted ∷ []));
-}
-
--- a counted line more
-record OneMore (counts new : List Counted) (line : LineSeen) : Type 0 where
-  counted : Counted
-  says : SaysCounted counted line
-  is : counts ++ counted ∷ [] ≡ new
-  right : AreRight new
-
-one_more : (counts new : List Counted) (line : LineSeen) → AreRight counts → has_words line 4 ≡ true → counts_with counts line ≡ Ok new → OneMore counts new line
-one_more counts new line are words e =
-    let limit = passed (nat_le 999 (length counts)) line _ (counted_in line >>= unless_counted counts line) new e in
-    let said = bind_ok (counted_in line) (unless_counted counts line) new limit.is in
-    let fresh = passed (is_counted said.value.dsd counts) line _ (Ok (counts ++ said.value ∷ [])) new said.goes_on in
-    let says : SaysCounted said.value line = counted_ok line said.value said.is words in
-    let room : length counts < 999 = let none : nat_le 999 (length counts) ≡ false = limit.none in grind (arith, nat_tests) in
-    let is : counts ++ said.value ∷ [] ≡ new = ok_same (counts ++ said.value ∷ []) new fresh.is in
-    record { counted = said.value; says = says; is = is; right = subst AreRight is (more_right counts said.value are (counted_right line said.value says) fresh.none room) }
 
 -- ---- one line: what it says
 

@@ -1,13 +1,12 @@
 -- Which texts say which counts: a relation, apart from any reading. The words and their order are this project's profile.
 use Rattle.std.specs.Prelude.{◌≡◌, ◌≤◌, ℕ, Bool, true, false, List, [], ◌∷◌, ◌++◌, length, map, codes, bytes_eq, Option, Ok}
 use Rattle.std.specs.List.{All, flat_map}
-use Rattle.dsd_values.specs.Reading.{delivery_number_of, word_between}
+use Rattle.dsd_values.specs.Reading.{delivery_number_of}
 use Rattle.dsd_values.specs.SignatureRecord.{SignatureRecord}
-use Rattle.dsd_values.specs.declared.limits.TheConstants.{MARK_BYTES}
 use Rattle.plain_lines.specs.Counting.{AreCounts as AreRight, SaysCounted}
 use Rattle.plain_lines.specs.Keyed.{AreApartBy, is_there, keyed, under}
 use Rattle.plain_lines.specs.PlainText.{LineSeen, lines_in, word_of_line}
-use Rattle.plain_lines.specs.Refusing.{IsLed}
+use Rattle.plain_lines.specs.Refusing.{IsLed, SaysSignature}
 use Rattle.plain_lines.specs.declared.counted.Counted.{Counted}
 use Rattle.receiver_core.specs.declared.count.Count.{Count}
 use Rattle.receiver_core.specs.declared.counts.TheConstants.{MOST_COUNTS}
@@ -48,10 +47,6 @@ pub data Entry : Type 0 where
 abbrev pub answer_text : Bool → List ℕ
 answer_text true = codes "YES"
 answer_text false = codes "NO"
-
-pub record SaysSignature (signature : SignatureRecord) (line : LineSeen) : Type 0 where
-  pub mark : word_between 1 MARK_BYTES (word_of_line line 1) ≡ Ok signature.mark
-  pub name : signature.name ≡ []
 
 -- the line says this entry
 abbrev pub SaysEntry : Entry → LineSeen → Type 0

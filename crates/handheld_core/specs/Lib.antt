@@ -1,0 +1,4 @@
+pub mod DraftRows
+pub mod DraftTexts
+pub mod Reading
+pub mod Choosing
