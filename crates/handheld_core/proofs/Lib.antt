@@ -6,3 +6,4 @@ mod Chosen
 mod Made
 mod Said
 mod Again
+mod Worked

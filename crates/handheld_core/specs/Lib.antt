@@ -2,3 +2,4 @@ pub mod DraftRows
 pub mod DraftTexts
 pub mod Reading
 pub mod Choosing
+pub mod Worked

@@ -14,5 +14,5 @@ mod rows;
 
 pub use draft::Draft;
 pub use drafts::{Drafts, MOST_DRAFTS};
-pub use laws::drafts_are_what_a_text_says;
+pub use laws::{drafts_are_what_a_text_says, worked_refusals_of_drafts, worked_tolerance};
 pub use reading::DraftsSoFar;

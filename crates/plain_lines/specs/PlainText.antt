@@ -1,7 +1,7 @@
 -- The lines of a text that a person writes: drafts, counts and scripts. Each ends with LF or CR LF, and its words stand with one space
 -- between them (this project's profile).
-use Rattle.std.specs.Prelude.{ℕ, ◌+◌, Bool, true, false, not, ◌&&◌, ◌==◌, bytes_eq, codes, if◌then◌else◌, List, [], ◌∷◌, length}
-use Rattle.std.specs.List.{list_any, slice_index_or, slice_split}
+use Rattle.std.specs.Prelude.{ℕ, ◌+◌, Bool, true, false, not, ◌&&◌, ◌==◌, bytes_eq, codes, if◌then◌else◌, List, [], ◌∷◌, ◌++◌, length}
+use Rattle.std.specs.List.{flat_map, list_any, slice_index_or, slice_split}
 use Rattle.std.specs.Str.Lines.{strip_carriage_return}
 
 -- what contracts see of a line: where it starts, its words, and whether it ends
@@ -50,6 +50,10 @@ lines_at place text = record { lines = lines_from place (slice_split is_line_fee
 
 abbrev pub lines_in : List ℕ → LinesLeft
 lines_in text = lines_at 0 text
+
+-- the text of these lines, each with an LF behind it
+abbrev pub text_of : List (List ℕ) → List ℕ
+text_of lines = flat_map (λ (line : List ℕ). line ++ 10 ∷ []) lines
 
 -- ---- words
 

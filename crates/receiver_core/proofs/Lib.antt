@@ -4,3 +4,4 @@ mod Chosen
 mod Loops
 mod Said
 mod Again
+mod Worked

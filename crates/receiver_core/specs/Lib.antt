@@ -1,3 +1,4 @@
 pub mod CountTexts
 pub mod Reading
 pub mod Choosing
+pub mod Worked

@@ -11,5 +11,7 @@ mod reading;
 
 pub use count::Count;
 pub use counts::{Counts, MOST_COUNTS};
-pub use laws::counts_are_what_a_text_says;
+pub use laws::{
+    choices_by_level, counts_are_what_a_text_says, lines_that_differ, worked_refusals_of_counts,
+};
 pub use reading::CountsSoFar;
