@@ -11,6 +11,8 @@ pub mod Firsts
 pub mod Covered
 pub mod UnitCuts
 pub mod Lines
+pub mod UnitEnds
+pub mod Filling
 pub mod Exists
 pub mod Fewest
 pub mod Items

@@ -22,7 +22,7 @@ AreLines [] = ⊤
 AreLines (line ∷ more) = IsLine line × AreLines more
 
 -- the first line of a text
-line_first : (front rest : List ℕ) → position is_feed front ≡ None
+pub line_first : (front rest : List ℕ) → position is_feed front ≡ None
     → lines_of (front ++ line_feed ∷ rest) ≡ (front ++ line_feed ∷ []) ∷ lines_of rest
 unfolding lines_of
 line_first [] rest none = refl

@@ -2,13 +2,13 @@
 
 ghost use Rattle.std.specs.Prelude.{◌≡◌, ◌<◌, ◌∷◌, true, [], length, IfSome, MatchOption};
 ghost use Rattle.std.specs.List.{list_all};
-ghost use Rattle.dex_line.specs.BlockCut.{blocks_of, Fills, IsFirstBlock, Marks};
+ghost use Rattle.dex_line.specs.BlockCut.{blocks_of, IsFirstBlock, Marks};
 ghost use Rattle.dex_line.specs.Bytes.{is_text};
 ghost use Rattle.dex_line.specs.FrameSpelling.{IsTextOf};
 ghost use Rattle.dex_line.specs.TextUnits.{UnitsFit};
 
 use super::frame::Opened;
-use super::units::first_unit;
+use super::units::filled;
 use std::marker::Model;
 
 /// The most bytes of a block that is written.
@@ -82,19 +82,4 @@ fn first_block(text: &[u8]) -> (&[u8], &[u8])
     ensures fit { UnitsFit result.1.now }
 {
     text.split_at(filled(text, BLOCK_WRITTEN))
-}
-
-/// How many bytes of whole units the room takes. Each call takes a unit, so it is at most `room` deep.
-#[tactic(auto, using(crate::proofs::UnitCuts::fills_empty, crate::proofs::UnitCuts::fills_nothing, crate::proofs::UnitCuts::fills_more))]
-fn filled(text: &[u8], room: usize) -> usize
-    ensures { Fills text.now room result }
-{
-    if text.is_empty() {
-        return 0;
-    }
-    let (unit, after) = first_unit(text);
-    if unit.len() > room {
-        return 0;
-    }
-    unit.len() + filled(after, room - unit.len())
 }

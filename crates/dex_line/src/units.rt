@@ -1,61 +1,54 @@
-//! The units of a text, which a block takes whole.
+//! The units of a text, which a block takes whole: where their ends are, looked for from the back.
 
-ghost use Rattle.std.specs.Prelude.{◌≡◌, ◌<◌, ◌≤◌, ◌∷◌, ◌++◌, length, take, drop, position};
-ghost use Rattle.dex_line.specs.TextUnits.{is_feed, is_set_end, is_trailer, lines_of, units_of};
+ghost use Rattle.std.specs.Prelude.{◌≡◌, length};
+ghost use Rattle.dex_line.specs.BlockCut.{Fills};
+ghost use Rattle.dex_line.specs.TextUnits.{is_set_end, is_trailer, EndsLines, IsLastLine, IsWholeLines};
 
 use super::bytes::is_id_end;
 
-/// The first unit of a text, and what is left.
-#[tactic(auto, using(crate::proofs::UnitCuts::unit_alone, crate::proofs::UnitCuts::unit_before, crate::proofs::UnitCuts::unit_end, crate::proofs::UnitCuts::join_back))]
-pub(crate) fn first_unit(text: &[u8]) -> (&[u8], &[u8])
-    requires { 0 < length text.now }
-    ensures units { units_of text.now ≡ result.0.now ∷ units_of result.1.now }
-    ensures joined { text.now ≡ result.0.now ++ result.1.now }
-    ensures some { 0 < length result.0.now }
+/// How many bytes of whole units the room takes.
+///
+/// The text that fills the room is looked at from its back: up to the end of its last line, and one line further where
+/// that end may part a G85 from its SE.
+#[tactic(auto, using(crate::proofs::Filling::fills_all))]
+pub(crate) fn filled(text: &[u8], room: usize) -> usize
+    ensures { Fills text.now room result }
 {
-    let (line, after) = split_line(text);
-    if !is_trailer_line(line) {
-        return (line, after);
+    if text.len() <= room {
+        return text.len();
     }
-    if after.is_empty() {
-        return (line, after);
+    let size = lines_len(&text[..room]);
+    if !begins_set_end(&text[size..]) {
+        return size;
     }
-    let (second, _more) = split_line(after);
-    if !is_set_end_line(second) {
-        return (line, after);
-    }
-    text.split_at(line.len() + second.len())
-}
-
-/// The first segment of a text with its terminator, and what is left.
-#[tactic(auto, using(crate::proofs::UnitCuts::join_back))]
-fn split_line(text: &[u8]) -> (&[u8], &[u8])
-    requires { 0 < length text.now }
-    ensures lines { lines_of text.now ≡ result.0.now ∷ lines_of result.1.now }
-    ensures joined { text.now ≡ result.0.now ++ result.1.now }
-    ensures some { 0 < length result.0.now }
-{
-    text.split_at(line_len(text))
-}
-
-/// How many bytes the first segment has with its terminator.
-#[tactic(auto, using(crate::proofs::UnitCuts::lines_feed, crate::proofs::UnitCuts::lines_rest))]
-fn line_len(text: &[u8]) -> usize
-    requires { 0 < length text.now }
-    ensures lines { lines_of text.now ≡ take result text.now ∷ lines_of (drop result text.now) }
-    ensures some { 0 < result }
-    ensures inside { result ≤ length text.now }
-{
-    match first_feed(text) {
-        Some(place) => place + 1,
-        None => text.len(),
+    let line = last_line(&text[..size]);
+    if is_trailer_line(line) {
+        size - line.len()
+    } else {
+        size
     }
 }
 
-fn first_feed(text: &[u8]) -> Option<usize>
-    ensures { result ≡ position is_feed text.now }
+/// How many bytes whole lines at the front have: those up to the last LF.
+fn lines_len(bytes: &[u8]) -> usize
+    ensures { EndsLines bytes.now result }
 {
-    text.iter().position(|&byte| byte == b'\n')
+    let mut size = bytes.len();
+    while size > 0 && bytes[size - 1] != b'\n' {
+        size -= 1;
+    }
+    size
+}
+
+/// The last of some lines, or nothing of none.
+fn last_line(lines: &[u8]) -> &[u8]
+    requires whole { IsWholeLines lines.now }
+    ensures { IsLastLine lines.now result.now }
+{
+    let Some((_feed, front)) = lines.split_last() else {
+        return lines;
+    };
+    &lines[lines_len(front)..]
 }
 
 /// Whether a segment is a G85.
@@ -68,11 +61,11 @@ fn is_trailer_line(line: &[u8]) -> bool
     }
 }
 
-/// Whether a segment is an SE.
-fn is_set_end_line(line: &[u8]) -> bool
-    ensures { result ≡ is_set_end line.now }
+/// Whether a text begins with an SE.
+fn begins_set_end(text: &[u8]) -> bool
+    ensures { result ≡ is_set_end text.now }
 {
-    match line {
+    match text {
         [b'S', b'E', behind, ..] => is_id_end(*behind),
         _ => false,
     }
