@@ -13,7 +13,7 @@ ghost use Rattle.adjustment_895.specs.ReadParts.{IsReadFrom};
 use crate::answer::{Answer895, seal_up};
 use crate::parts::Parts;
 use crate::reader::Reader;
-use segments::{Seal, SegmentReader, SetFault, next_segment};
+use segments::{Seal, SegmentReader, SetFault, unreadable};
 use std::alloc::Global;
 
 /// Reads an answer: its value and its seal.
@@ -40,9 +40,14 @@ fn read_parts(alloc: Global, text: &[u8]) -> Result<Parts, SetFault>
     let mut machine = Reader::new(alloc)?;
     let mut segments = SegmentReader::new(text);
     let mut place = 0;
-    while let Some(segment) = next_segment(&mut segments, place)? {
-        machine.step(&segment)?;
-        place = segment.end();
+    loop {
+        match segments.next() {
+            Ok(Some(segment)) => {
+                machine.step(&segment)?;
+                place = segment.end();
+            }
+            Ok(None) => return machine.finish(place),
+            Err(fault) => return unreadable(place, fault),
+        }
     }
-    machine.finish(place)
 }

@@ -1,5 +1,5 @@
 -- The first 513 bytes of a text decide how many its first segment takes.
-use Rattle.std.proofs.Common.{◌≡◌, ℕ, zero, suc, ◌<◌, ◌≤◌, min, not, if◌then◌else◌, nat_lt, List, [], ◌∷◌, length, take, drop, Err, inl, inr, ◌∙◌, ap, arith, ◌+◌}
+use Rattle.std.proofs.Common.{◌≡◌, ℕ, zero, suc, ◌<◌, ◌≤◌, min, not, if◌then◌else◌, nat_lt, List, [], ◌∷◌, length, take, drop, Ok, Err, inl, inr, ◌∙◌, ap, arith, ◌+◌}
 use Rattle.std.proofs.lemmas.Bool.{cases_Bool}
 use Rattle.std.proofs.lemmas.Bool.Decides.{nat_tests}
 use Rattle.std.proofs.lemmas.List.Sums.{prefix_len-le-length}
@@ -37,3 +37,11 @@ body_inside body rest e =
     let least = body_length-take (SEGMENT_BYTES + 1) rest in
     let most : body_length rest ≤ length rest = prefix_len-le-length (λ b. not (is_outside b)) rest in
     omega arith
+
+-- a CR and an LF end a body that leaves room for both
+line_end : (start body : ℕ) (more : List ℕ) → body + 2 ≤ SEGMENT_BYTES → after_body start body (13 ∷ 10 ∷ more) ≡ Ok (body + 2)
+line_end start body more short = grind (arith, nat_tests)
+
+pub size_of-line_end : (start body : ℕ) (rest more : List ℕ) → body ≡ body_length (take (SEGMENT_BYTES + 1) rest) → body + 2 ≤ SEGMENT_BYTES → drop body rest ≡ 13 ∷ 10 ∷ more → size_of start rest ≡ Ok (body + 2)
+size_of-line_end start body rest more e short ends =
+    size_of-short start body rest e (omega arith) ∙ ap (after_body start body) ends ∙ line_end start body more short

@@ -14,6 +14,7 @@ pub mod Scan
 pub mod Front
 pub mod Judging
 pub mod Sized
+pub mod FirstSizes
 pub mod Beyond
 pub mod Ids
 pub mod Spelled

@@ -6,7 +6,7 @@ use Rattle.segments.specs.Views.{Seg, Left}
 use Rattle.segments.specs.SegmentCut.{Cut, cut_left, next_of, left_after}
 use Rattle.segments.specs.SegmentSpelling.{SpellsSegment, IsEnding}
 use Rattle.segments.specs.Reasons.{Says}
-use Rattle.segments.specs.Refusal.{Refusal, Judged, refused_at, ended_at, refusal_from, said_by, segment_at, Answers}
+use Rattle.segments.specs.Refusal.{Refusal, Judged, refused_at, ended_at, refusal_from, said_by, Answers}
 use Rattle.segments.specs.declared.segment_fault.SegmentFault.{SegmentFault}
 use Rattle.segments.specs.declared.set_fault.SetFault.{SetFault}
 use Rattle.segments.specs.declared.set_fault.SetFault.TheVariants as errors
@@ -56,23 +56,13 @@ pub same_err : {X : Type 0} (r : Result X SetFault) (e : SetFault) → IsErr r �
 same_err (Ok x) e h = let f : false ≡ true = h.0 in cc (f)
 same_err (Err f) e h = ap (λ (u : SetFault). Err u) h.1
 
-pub segment_ok : (place : ℕ) (answer : Result (Option Seg) SegmentFault) (next : Option Seg) → Ok next ≡ segment_at place answer → answer ≡ Ok next
-segment_ok place (Ok o) next e = let same : next ≡ o = cc (e) in ap (λ (u : Option Seg). Ok u) (sym same)
-segment_ok place (Err f) next e = cc
-
-segment_err : (place : ℕ) (answer : Result (Option Seg) SegmentFault) (e : SetFault) → Err e ≡ segment_at place answer → (fault : SegmentFault) × (answer ≡ Err fault) × (e ≡ errors.Refused place (reasons.Segment fault))
-segment_err place (Ok o) e eq = cc
-segment_err place (Err f) e eq = (f, refl, cc (eq))
-
 refuses : {X : Type 0} (r : Result X SetFault) (place : ℕ) (why : SetReason) (wanted : Option Refusal) (P : X → Type 0) → r ≡ Err (errors.Refused place why) → wanted ≡ Some (record { place = place; reason = why }) → Answers r wanted P
 refuses r place why wanted P e w = subst (λ (u : _). Answers u wanted P) (sym e) w
 
 module _ {M X : Type 0} (j : Judged M) where
-  pub fault_answers : (m : M) (place : ℕ) (left : Left) (e : SetFault) (r : Result X SetFault) (wanted : Option Refusal) (P : X → Type 0) → r ≡ Err e
-      → Err e ≡ segment_at place (next_of left) → refusal_in j m place (cut_left left) ≡ wanted → Answers r wanted P
-  fault_answers m place left e r wanted P same eq w =
-      let f = segment_err place (next_of left) e eq in
-      refuses r place (reasons.Segment f.0) wanted P (same ∙ ap (λ (u : SetFault). Err u) f.2) (sym w ∙ fault_refused j m place left f.0 f.1)
+  pub fault_answers : (m : M) (place : ℕ) (left : Left) (fault : SegmentFault) (r : Result X SetFault) (wanted : Option Refusal) (P : X → Type 0) → r ≡ Err (errors.Refused place (reasons.Segment fault))
+      → next_of left ≡ Err fault → refusal_in j m place (cut_left left) ≡ wanted → Answers r wanted P
+  fault_answers m place left fault r wanted P same n w = refuses r place (reasons.Segment fault) wanted P same (sym w ∙ fault_refused j m place left fault n)
 
   pub step_answers : (m : M) (place : ℕ) (left : Left) (seg : Seg) (e : SetFault) (r : Result X SetFault) (wanted : Option Refusal) (P : X → Type 0) {Y : Type 0} (Q : Y → Type 0) → r ≡ Err e
       → next_of left ≡ Ok (Some seg) → Says (Err e) seg.start (j.reason m seg) Q → refusal_in j m place (cut_left left) ≡ wanted → Answers r wanted P
@@ -86,10 +76,6 @@ module _ {M X : Type 0} (j : Judged M) where
       let same : ended_at (j.whole m) place None ≡ wanted = sym (end_refused j m place left n) ∙ w in
       let said : m ≡ whole = sym (end_said j m left n) ∙ s in
       subst (λ (u : Option Refusal). Answers r u (Read whole)) same (subst (λ (u : M). Answers r (ended_at (j.whole m) place None) (Read u)) said a)
-
-pub none_left : (o : Option Seg) → ((x : Seg) → o ≡ Some x → ⊥) → o ≡ None
-none_left (Some x) apart = absurd (apart x refl)
-none_left None apart = refl
 
 -- ---- one more segment
 

@@ -1,8 +1,8 @@
 -- Where the parts of a segment end.
-use Rattle.std.specs.Prelude.{◌≡◌, ℕ, ◌+◌, ◌-◌, ◌==◌, if◌then◌else◌, slice_index, ◌^◌, ◌<◌, ◌≤◌, All, List, [], ◌∷◌, length}
+use Rattle.std.specs.Prelude.{◌≡◌, ℕ, ◌+◌, ◌-◌, ◌==◌, if◌then◌else◌, slice_index, ◌^◌, ◌<◌, ◌≤◌, All, List, [], ◌∷◌, length, take, Ok}
 use Rattle.std.specs.Int.{bit_at}
 use Rattle.segments.specs.SegmentSpelling.{IsPart, Spells, SpellsSegment}
-use Rattle.segments.specs.SegmentCut.{parts_of, seg_at}
+use Rattle.segments.specs.SegmentCut.{body_length, first_of, parts_of, seg_at}
 use Rattle.segments.specs.declared.segment.TheConstants.{SEGMENT_BYTES}
 
 -- the places of the separators behind parts that begin at this place, and last the place behind them all
@@ -29,3 +29,14 @@ pub record KeepsSegment (start : ℕ) (bytes ends : List ℕ) : Type 0 where
   pub spelled : SpellsSegment (seg_at start bytes)
   pub parted : ends ≡ ends_from 0 (parts_of bytes)
   pub placed : start + length bytes < 2 ^ 64
+
+-- so many bytes of these stand before the first that is outside, and there their parts end, as far as there is room
+pub record IsBodyOf (bytes : List ℕ) (size : ℕ) (ends : List ℕ) : Type 0 where
+  pub stops : size ≡ body_length bytes
+  pub parted : ends ≡ take 32 (ends_from 0 (parts_of bytes))
+
+-- the first so many bytes of what is left are the segment at its front, and its parts end there
+pub record IsJudged (start : ℕ) (rest ends : List ℕ) (size : ℕ) : Type 0 where
+  pub inside : size ≤ length rest
+  pub kept : KeepsSegment start (take size rest) ends
+  pub first : first_of start rest ≡ Ok (seg_at start (take size rest))

@@ -51,11 +51,6 @@ said_by j m (seg ∷ segs) = said_by j (j.after m seg) segs
 
 -- ---- answers
 
--- the next segment, or its refusal at the place where it starts
-abbrev pub segment_at : ℕ → Result (Option Seg) SegmentFault → Result (Option Seg) SetFault
-segment_at place (Ok next) = Ok next
-segment_at place (Err fault) = Err (errors.Refused place (reasons.Segment fault))
-
 -- the place of a refusal is at most the length of the text
 abbrev pub IsWithin : {X : Type 0} → Result X SetFault → ℕ → Type 0
 IsWithin (Ok x) size = Unit {0}

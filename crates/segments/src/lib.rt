@@ -36,7 +36,7 @@ pub use item_fault::ItemFault;
 pub use kind::{Form, Kind, has_id, head_id, is_start_of};
 pub use laws::{order_is_the_grammar, segments_are_those_spelled, segments_stand_in_their_text};
 pub use phase::Phase;
-pub use refusing::{at, next_segment, refuse};
+pub use refusing::{at, refuse, unreadable};
 pub use seal::Seal;
 pub use segment::{SEGMENT_BYTES, SEGMENT_ELEMENTS, Segment, between};
 pub use segment_fault::SegmentFault;

@@ -1,14 +1,11 @@
 //! Refusals at a segment.
 
-ghost use Rattle.std.specs.Prelude.{◌≡◌, Err, IfOk, IfSome};
-ghost use Rattle.segments.specs.Refusal.{segment_at};
-ghost use Rattle.segments.specs.SegmentCut.{left_after, next_of};
-ghost use Rattle.segments.specs.SegmentSpelling.{IsFront};
+ghost use Rattle.std.specs.Prelude.{◌≡◌, Err};
 ghost use Rattle.segments.specs.Reasons.{at_segment};
 
 use crate::item_fault::ItemFault;
 use crate::segment::Segment;
-use crate::segment_reader::SegmentReader;
+use crate::segment_fault::SegmentFault;
 use crate::set_fault::{SetFault, SetReason};
 
 /// A refusal at this segment.
@@ -34,21 +31,13 @@ pub fn at<T>(segment: &Segment<'_>, answer: Result<T, ItemFault>) -> Result<T, S
     }
 }
 
-/// The next segment, or its refusal at the place where it starts.
-#[inline(always)]
-pub fn next_segment<'a>(
-    segments: &mut SegmentReader<'a>,
-    place: usize,
-) -> Result<Option<Segment<'a>>, SetFault>
-    ensures answer { result ≡ segment_at place (next_of segments.old) }
-    ensures left { segments.new ≡ left_after segments.old }
-    ensures front { IfOk result (λ some. IfSome some (λ seg. IsFront seg segments.old segments.new)) }
+/// The refusal of a text at the place where no segment can be read.
+// The readers of sets match the answer of `next` themselves: a segment is copied with each answer that it is put into.
+pub fn unreadable<T>(place: usize, fault: SegmentFault) -> Result<T, SetFault>
+    ensures { result ≡ Err (SetFault.Refused place (SetReason.Segment fault)) }
 {
-    match segments.next() {
-        Ok(segment) => Ok(segment),
-        Err(fault) => Err(SetFault::Refused {
-            place,
-            reason: SetReason::Segment(fault),
-        }),
-    }
+    Err(SetFault::Refused {
+        place,
+        reason: SetReason::Segment(fault),
+    })
 }

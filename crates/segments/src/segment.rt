@@ -1,6 +1,6 @@
-ghost use Rattle.std.specs.Prelude.{◌≡◌, ◌+◌, ◌-◌, ◌<◌, ◌≤◌, ◌^◌, ◌&&◌, [], drop, length, slice_index_or, take};
+ghost use Rattle.std.specs.Prelude.{◌≡◌, ◌+◌, ◌-◌, ◌<◌, ◌≤◌, ◌^◌, ◌&&◌, [], Err, IfErr, OnOk, drop, length, slice_index_or, take};
 ghost use Rattle.std.specs.List.{join_with_byte};
-ghost use Rattle.segments.specs.PartEnds.{IsSpelled, ends_from, start_of};
+ghost use Rattle.segments.specs.PartEnds.{IsSpelled, KeepsSegment, ends_from, start_of};
 ghost use Rattle.segments.specs.SegmentCut.{parts_of, seg_at, with_parts};
 ghost use Rattle.segments.specs.SegmentSpelling.{IsPart, SpellsSegment, is_id as is_id_spelling, is_id_byte as id_byte};
 ghost use Rattle.segments.specs.Views.{element_of};
@@ -36,24 +36,14 @@ impl<'a> Model for Segment<'a> {
 }
 
 impl<'a> Segment<'a> {
-    /// The segment of these bytes, which end with its terminator, judged by its id and the number of its elements.
-    pub(crate) fn judged(
-        start: usize,
-        bytes: &'a [u8],
-        ends: PartEnds,
-    ) -> Result<Segment<'a>, SegmentFault>
-        requires spelled { IsSpelled bytes.now }
-        requires parted { ends.items ≡ take 32 (ends_from 0 (parts_of bytes.now)) }
-        requires placed { start + length bytes.now < 2 ^ 64 }
-        ensures { result ≡ with_parts (seg_at start bytes.now) }
+    /// The segment of these bytes, whose parts end there.
+    // Inlined where it is made last, so that the list of its ends is copied no more than once.
+    #[inline(always)]
+    pub(crate) fn new(start: usize, bytes: &'a [u8], ends: PartEnds) -> Segment<'a>
+        requires { KeepsSegment start bytes.now ends.items }
+        ensures { result ≡ seg_at start bytes.now }
     {
-        if !is_id(part_at(bytes, ends.as_slice(), 0)) {
-            return Err(SegmentFault::BadId(start));
-        }
-        if ends.len() > SEGMENT_ELEMENTS + 1 {
-            return Err(SegmentFault::TooManyElements(start));
-        }
-        Ok(Segment { start, bytes, ends })
+        Segment { start, bytes, ends }
     }
 
     /// The place at which it starts.
@@ -118,6 +108,24 @@ impl<'a> Segment<'a> {
     {
         self.bytes
     }
+}
+
+/// Refuses bytes that end as a segment does where they are none, by the id and then by the number of elements.
+// It answers no segment, since a value with a list in it is copied with each answer that it stands in.
+pub(crate) fn judge(start: usize, bytes: &[u8], ends: &[u16]) -> Result<(), SegmentFault>
+    requires spelled { IsSpelled bytes.now }
+    requires parted { ends.now ≡ take 32 (ends_from 0 (parts_of bytes.now)) }
+    requires placed { start + length bytes.now < 2 ^ 64 }
+    ensures right { OnOk result (KeepsSegment start bytes.now ends.now) }
+    ensures refused { IfErr result (λ fault. with_parts (seg_at start bytes.now) ≡ Err fault) }
+{
+    if !is_id(part_at(bytes, ends, 0)) {
+        return Err(SegmentFault::BadId(start));
+    }
+    if ends.len() > SEGMENT_ELEMENTS + 1 {
+        return Err(SegmentFault::TooManyElements(start));
+    }
+    Ok(())
 }
 
 /// Where the part with this number starts: behind the separator before it.

@@ -1,7 +1,7 @@
 ghost use Rattle.std.specs.Prelude.{ℕ, true, false, ◌≡◌, ◌≢◌, ◌+◌, ◌<◌, ◌≤◌, if◌then◌else◌, [], ◌∷◌, ◌++◌, length, slice_index, slice_index_or, take};
 ghost use Rattle.std.specs.Int.{bit_at};
-ghost use Rattle.segments.specs.PartEnds.{IsFirstBit, ends_from};
-ghost use Rattle.segments.specs.SegmentCut.{body_length, is_outside, parts_of};
+ghost use Rattle.segments.specs.PartEnds.{IsBodyOf, IsFirstBit};
+ghost use Rattle.segments.specs.SegmentCut.{is_outside};
 ghost use Rattle.segments.specs.SegmentSpelling.{is_star};
 ghost use Rattle.segments.specs.declared.segment.TheConstants.{SEGMENT_BYTES};
 
@@ -15,22 +15,16 @@ const BLOCK: usize = 32;
 /// of the terminator. There is room for one more than a segment may have, so a full list means too many.
 pub type PartEnds = ArrayVec<u16, 32>;
 
-/// What stands at the front of a text up to the first byte that is neither an element character nor `*`.
-#[derive(Drop)]
-pub struct Body {
-    pub length: usize,
-    pub ends: PartEnds,
-}
-
-/// The body at the front of these bytes, found in one pass: a block of bytes is looked at together, and then only those
+/// How many bytes stand at the front of these before the first that is neither an element character nor `*`, and in the
+/// list where their parts end. They are found in one pass: a block of bytes is looked at together, and then only those
 /// that end a part. Past the end of the bytes a block has zeros, which are outside.
+// The list is the caller's, so that it is filled where it stays.
 #[inline(always)]
-pub fn body_at(front: &[u8]) -> Body
-    requires { length front.now ≤ SEGMENT_BYTES + 1 }
-    ensures length { result.length ≡ body_length front.now }
-    ensures ends { result.ends.items ≡ take 32 (ends_from 0 (parts_of front.now)) }
+pub fn body_at(front: &[u8], ends: &mut PartEnds) -> usize
+    requires short { length front.now ≤ SEGMENT_BYTES + 1 }
+    requires empty { ends.old.items ≡ [] }
+    ensures { IsBodyOf front.now result ends.new.items }
 {
-    let mut ends = ArrayVec::new();
     let mut place = 0;
     let mut inside = BLOCK;
     while inside == BLOCK {
@@ -39,16 +33,13 @@ pub fn body_at(front: &[u8]) -> Body
         let mut stars = first_bits(stars_in(block), inside);
         // A full list says too many: where the others stand is not asked.
         while stars != 0 && ends.len() < ends.capacity() {
-            add_end(&mut ends, place + first_of(stars));
+            add_end(ends, place + first_of(stars));
             stars = without_first(stars);
         }
         place += inside;
     }
-    push_end(&mut ends, place);
-    Body {
-        length: place,
-        ends,
-    }
+    push_end(ends, place);
+    place
 }
 
 /// Notes one more end, where there is room.

@@ -1,12 +1,13 @@
-ghost use Rattle.std.specs.Prelude.{[], IfOk, IfSome, OnErr, drop, length, take, ◌+◌, ◌<◌, ◌^◌, ◌↔◌, ◌≡◌, ◌≤◌};
+ghost use Rattle.std.specs.Prelude.{[], ◌∷◌, Err, IfErr, IfOk, IfSome, IsTrue, OnErr, drop, length, take, ◌+◌, ◌<◌, ◌^◌, ◌↔◌, ◌≡◌, ◌≤◌};
+ghost use Rattle.segments.specs.PartEnds.{IsBodyOf, IsJudged};
 ghost use Rattle.segments.specs.SegmentCut.{after_body, body_length, first_of, left_after, limited as within_limit, next_of, size_of, text_start};
 ghost use Rattle.segments.specs.SegmentSpelling.{IsFront};
 ghost use Rattle.segments.specs.SegmentRefusal.{IsFault};
 ghost use Rattle.segments.specs.Views.{Left, Seg};
 ghost use Rattle.segments.specs.declared.segment_fault.SegmentFault.{SegmentFault};
 
-use crate::segment::{SEGMENT_BYTES, Segment};
-use crate::segment_body::body_at;
+use crate::segment::{SEGMENT_BYTES, Segment, judge};
+use crate::segment_body::{PartEnds, body_at};
 use crate::segment_fault::SegmentFault;
 use std::marker::Model;
 
@@ -67,24 +68,31 @@ impl<'a> SegmentReader<'a> {
         if self.rest.is_empty() {
             return Ok(None);
         }
-        let segment = first_segment(self.place, self.rest)?;
-        let size = segment.bytes().len();
-        self.rest = &self.rest[size..];
+        let mut ends = PartEnds::new();
+        let length = body_at(first_bytes(self.rest), &mut ends);
+        let size = judged_size(self.place, self.rest, length, ends.as_slice())?;
+        let start = self.place;
+        let bytes = first(self.rest, size);
+        self.rest = behind(self.rest, size);
         self.place += size;
-        Ok(Some(segment))
+        Ok(Some(Segment::new(start, bytes, ends)))
     }
 }
 
-/// The segment at the front of what is left.
+/// How many bytes the segment at the front takes, with its terminator, where so many of the first bytes stand before it
+/// and its parts end there.
 #[inline(always)]
-#[tactic(auto, unfolding(crate::specs::SegmentCut::first_of))]
-fn first_segment<'a>(start: usize, rest: &'a [u8]) -> Result<Segment<'a>, SegmentFault>
-    requires { start + length rest.now < 2 ^ 64 }
-    ensures { result ≡ first_of start rest.now }
+fn judged_size(start: usize, rest: &[u8], body: usize, ends: &[u16]) -> Result<usize, SegmentFault>
+    requires body { IsBodyOf (take (SEGMENT_BYTES + 1) rest.now) body ends.now }
+    requires placed { start + length rest.now < 2 ^ 64 }
+    ensures right { IfOk result (λ size. IsJudged start rest.now ends.now size) }
+    ensures refused { IfErr result (λ fault. first_of start rest.now ≡ Err fault) }
 {
-    let body = body_at(first_bytes(rest));
-    let size = first_size(start, body.length, rest)?;
-    Segment::judged(start, first(rest, size), body.ends)
+    let size = first_size(start, body, rest)?;
+    match judge(start, first(rest, size), ends) {
+        Ok(()) => Ok(size),
+        Err(fault) => Err(fault),
+    }
 }
 
 /// The bytes that decide: as many as a segment may have, and one more.
@@ -109,10 +117,22 @@ fn first_size(start: usize, body: usize, rest: &[u8]) -> Result<usize, SegmentFa
     requires placed { start + length rest.now < 2 ^ 64 }
     ensures { result ≡ size_of start rest.now }
 {
+    let after = behind(rest, body);
+    // Nearly every segment ends so: asked first, and at once.
+    if body <= SEGMENT_BYTES - 2 && is_line_end(after) {
+        return Ok(body + 2);
+    }
     if body > SEGMENT_BYTES {
         return Err(SegmentFault::TooLong(start));
     }
-    size_behind(start, body, behind(rest, body))
+    size_behind(start, body, after)
+}
+
+/// Whether a CR and an LF stand at the front.
+fn is_line_end(after: &[u8]) -> bool
+    ensures { IsTrue result → after.now ≡ 13 ∷ 10 ∷ drop 2 after.now }
+{
+    matches!(after, [b'\r', b'\n', ..])
 }
 
 /// How many bytes a segment takes, where so many stand before what follows.

@@ -8,7 +8,7 @@ use Rattle.segments.proofs.segment_body.body_at.Goals as goal
 use Rattle.segments.proofs.segment_body.body_at.Goals.{then-loop-stars-test+else-len-capacity, else-loop-stars-test}
 
 pub loop-inside-init : goal.loop-inside-init
-loop-inside-init c = record { scanned = scanned_none c.args.front.now c.new-ends.result.items c.new-ends.ensures; few = omega arith; outside = λ under. absurd (omega arith) }
+loop-inside-init c = record { scanned = scanned_none c.args.front.now c.args.ends.now.items c.requires.empty; few = omega arith; outside = λ under. absurd (omega arith) }
 
 pub loop-stars-init : goal.loop-stars-init
 loop-stars-init c =
@@ -36,7 +36,7 @@ add_end-requires-clause-place c =
     let place = c.loop-inside.place in
     let stop = c.loop-inside.place + c.inside_of-inside.result in
     let inside = near_within c.args.front.now c.loop-stars.ends.items place stop c.loop-stars.stars c.loop-stars.invariant c.first_of.result c.first_of.ensures.0 c.first_of.ensures.1 in
-    omega (arith, inside, c.requires)
+    omega (arith, inside, c.requires.short)
 
 pub loop-inside-preserved : goal.loop-inside-preserved
 loop-inside-preserved c =
@@ -52,12 +52,8 @@ loop-inside-preserved c =
       outside = λ under. ap is_outside (sym (c.block_at-block.ensures count under)) ∙ c.inside_of-inside.ensures.outside under;
     }
 
-pub returns-clause-length : goal.returns-clause-length
-returns-clause-length c =
+pub returns : goal.returns
+returns c =
     let i = c.loop-inside.invariant in
-    sym (scanned_all c.args.front.now c.loop-inside.ends.items c.loop-inside.place i.scanned (λ within. i.outside (omega (arith, i.few, c.loop-inside-test.false)))).0
-
-pub returns-clause-ends : goal.returns-clause-ends
-returns-clause-ends c =
-    let i = c.loop-inside.invariant in
-    c.push_end.ensures ∙ (scanned_all c.args.front.now c.loop-inside.ends.items c.loop-inside.place i.scanned (λ within. i.outside (omega (arith, i.few, c.loop-inside-test.false)))).1
+    let all = scanned_all c.args.front.now c.loop-inside.ends.items c.loop-inside.place i.scanned (λ within. i.outside (omega (arith, i.few, c.loop-inside-test.false))) in
+    record { stops = sym all.0; parted = c.push_end.ensures ∙ all.1 }
