@@ -1,9 +1,11 @@
 -- What the bodies look up and ask of calls below.
-use Rattle.std.proofs.Common.{◌≡◌, ◌⊎◌, ℕ, zero, suc, Bool, true, false, not, ◌&&◌, ◌||◌, if◌then◌else◌, bytes_eq, List, [], ◌∷◌, ◌++◌, get_or, slice_get, is_none, Option, Some, None, Result, Err, inl, inr, refl, sym, ap, subst, ◌∙◌}
+use Rattle.std.proofs.Common.{◌≡◌, ◌⊎◌, ◌<◌, ℕ, zero, suc, Bool, true, false, not, ◌&&◌, ◌||◌, if◌then◌else◌, bytes_eq, List, [], ◌∷◌, ◌++◌, get_or, slice_get, length, position, is_some, is_none, IfSome, MatchOption, Option, Some, None, Result, Err, inl, inr, refl, sym, ap, subst, ◌∙◌}
 use Rattle.std.specs.List.{list_any}
-use Rattle.std.specs.Map.{keys_of}
+use Rattle.std.specs.Map.{keys_of, lookup}
+use Rattle.std.proofs.lemmas.List.Quantifiers.{position-Some}
 use Rattle.indexmap.specs.IndexMap.{insert_entry}
 use Rattle.indexmap.specs.IndexSet.{insert_key}
+use Rattle.segments.proofs.Small.{bytes_are}
 use Rattle.adjustment_895.specs.AnswerRecord.{AnswerRecord}
 use Rattle.dsd_record.specs.Applying.{applied, apply_fault}
 use Rattle.dsd_record.specs.Version.{Version}
@@ -40,6 +42,16 @@ keys_step e es key value false ih = ap (λ (l : List (List ℕ)). e.0 ∷ l) ih 
 pub keys_inserted : {V : Type 0} (es : List (List ℕ × V)) (key : List ℕ) (value : V) → keys_of (insert_entry bytes_eq es key value) ≡ insert_key bytes_eq (keys_of es) key
 keys_inserted [] key value = refl
 keys_inserted (e ∷ es) key value = keys_step e es key value (bytes_eq key e.0) (keys_inserted es key value)
+
+none_is : {X : Type 0} (o : Option X) → is_some o ≡ false → o ≡ None
+none_is None e = refl
+none_is (Some x) e = cc
+
+-- the index of a key
+pub found_at : {V : Type 0} (es : List (List ℕ × V)) (key : List ℕ) (result : Option ℕ) → result ≡ position (bytes_eq key) (keys_of es) → is_some result ≡ is_some (lookup (bytes_eq key) es) → IfSome result (λ (i : ℕ). i < length es)
+    → MatchOption result (lookup (bytes_eq key) es ≡ None) (λ (i : ℕ). (i < length es) × (get_or (keys_of es) i [] ≡ key))
+found_at es key (Some i) at found within = (within, sym (bytes_are key (get_or (keys_of es) i []) (position-Some (bytes_eq key) (keys_of es) i [] (sym at)).1))
+found_at es key None at found within = none_is (lookup (bytes_eq key) es) (sym found)
 
 -- ---- answers that are applied
 

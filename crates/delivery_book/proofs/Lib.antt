@@ -19,3 +19,6 @@ pub mod Rebuilt
 pub mod Judged
 pub mod Known
 pub mod Signed
+pub mod Opened
+pub mod Staged
+pub mod Refusing

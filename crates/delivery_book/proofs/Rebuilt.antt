@@ -1,5 +1,5 @@
 -- What rules keep: how it stays right behind an entry more, and what is looked up in it.
-use Rattle.std.proofs.Common.{◌≡◌, ◌≤◌, ◌+◌, get_or, ℕ, Bool, true, false, cond, not, ◌&&◌, if◌then◌else◌, bytes_eq, List, [], ◌∷◌, ◌++◌, length, map, is_some, is_none, Option, Some, None, Result, Ok, Err, inl, inr, filter, refl, sym, ap, subst, ◌∙◌, arith}
+use Rattle.std.proofs.Common.{◌≡◌, ◌<◌, ◌≤◌, ◌+◌, get_or, ℕ, Bool, true, false, cond, not, ◌&&◌, if◌then◌else◌, bytes_eq, List, [], ◌∷◌, ◌++◌, length, map, is_some, is_none, MatchOption, Option, Some, None, Result, Ok, Err, inl, inr, filter, refl, sym, ap, subst, ◌∙◌, arith}
 use Rattle.std.specs.Map.{keys_of}
 use Rattle.std.specs.Option.{option_and_then}
 use Rattle.std.proofs.lemmas.List.Elements.{filter-append}
@@ -20,7 +20,7 @@ use Rattle.delivery_book.specs.declared.fault.AdmitFault.{AdmitFault}
 use Rattle.delivery_book.specs.declared.fault.AdmitFault.TheVariants as admitting
 use Rattle.delivery_book.specs.declared.fault.RuleFault.{RuleFault}
 use Rattle.delivery_book.specs.Signing.{Allows, Legal}
-use Rattle.delivery_book.specs.Standing.{acceptance_of, version_at}
+use Rattle.delivery_book.specs.Standing.{IsNew, acceptance_of, version_at}
 use Rattle.delivery_book.proofs.Behind.{kept_more, new_unaccepted}
 use Rattle.delivery_book.proofs.Grown.{final_is, legal_closes, legal_founded, legal_last, legal_more, no_final}
 use Rattle.delivery_book.proofs.Listed.{deeds_more}
@@ -90,6 +90,15 @@ module _ (role : Role) (entries : List Entry) (list : List (List ℕ × Stand)) 
 
   pub stands_at : (index : ℕ) (stand : Stand) → kept_in list (get_or (keys_of list) index []) ≡ Some stand → IsStand (number_at entries index) entries stand
   stands_at index stand there = stand_there (number_at entries index) entries (kept_in list (number_at entries index)) stand (r.knows (number_at entries index)) (ap (kept_in list) (sym (number_there index)) ∙ there)
+
+  new_there : (number : List ℕ) (o : Option Stand) → IsKept number entries o → o ≡ None → IsNew number (deeds_of entries)
+  new_there number o k e = subst (IsKept number entries) e k
+
+  -- the index under which a delivery is kept
+  pub found_there : (number : List ℕ) (result : Option ℕ) → MatchOption result (kept_in list number ≡ None) (λ (index : ℕ). (index < length list) × (get_or (keys_of list) index [] ≡ number))
+      → MatchOption result (IsNew number (deeds_of entries)) (λ (index : ℕ). (index < length (numbers_of entries)) × (number_at entries index ≡ number))
+  found_there number (Some index) h = (subst (λ (n : ℕ). index < n) as_many h.0, sym (number_there index) ∙ h.1)
+  found_there number None h = new_there number (kept_in list number) (r.knows number) h
 
 module _ (number : List ℕ) (entries : List Entry) (stand : Stand) (stands : IsStand number entries stand) where
   pub seen_there : seen_of entries number ≡ Some stand.seen

@@ -13,3 +13,6 @@ pub mod Changes
 pub mod Takings
 pub mod Signatures
 pub mod Admissions
+pub mod Books
+pub mod BookInside
+pub mod BookImages

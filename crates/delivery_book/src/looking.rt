@@ -1,6 +1,6 @@
 //! Deliveries under their numbers.
 
-ghost use Rattle.std.specs.Prelude.{◌≡◌, ◌<◌, [], ℕ, List, Some, bytes_eq, cond, slice_index_or};
+ghost use Rattle.std.specs.Prelude.{◌≡◌, ◌<◌, [], ℕ, List, MatchOption, None, Some, bytes_eq, cond, slice_index_or};
 ghost use Rattle.std.specs.Map.{keys_of};
 ghost use Rattle.std.specs.Option.{option_and_then, option_copied};
 ghost use Rattle.indexmap.specs.IndexMap.{index_map_len, keys, spare};
@@ -22,6 +22,13 @@ pub(crate) fn at(deliveries: &Deliveries, index: usize) -> (&DeliveryNumber, &De
         Some(pair) => pair,
         None => unreachable!(),
     }
+}
+
+/// The index of the delivery with this number.
+pub(crate) fn index_of(deliveries: &Deliveries, number: &DeliveryNumber) -> Option<usize>
+    ensures { MatchOption result (kept_in deliveries.now.entries number.now ≡ None) (λ index. (index < index_map_len deliveries.now) × (slice_index_or (keys deliveries.now) index [] ≡ number.now)) }
+{
+    deliveries.get_index_of(number)
 }
 
 /// The version of a delivery that is accepted.

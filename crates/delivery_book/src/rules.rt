@@ -1,20 +1,21 @@
 //! The signing rules of an end over its entries, without a device.
 
-ghost use Rattle.std.specs.Prelude.{◌≡◌, ◌<◌, ◌+◌, ◌^◌, ◌++◌, ◌∷◌, [], if◌then◌else◌, OnOk, length, slice_index_or, Some, true};
+ghost use Rattle.std.specs.Prelude.{◌≡◌, ◌<◌, ◌+◌, ◌^◌, ◌++◌, ◌∷◌, [], if◌then◌else◌, MatchOption, OnOk, length, slice_index_or, Some, true};
 ghost use Rattle.std.specs.Option.{option_copied};
 ghost use Rattle.dsd_journal.specs.declared.entry.Entry.{Entry as Kept};
 ghost use Rattle.delivery_book.specs.Changes.{IsChange};
-ghost use Rattle.delivery_book.specs.Deeds.{is_signed as is_signed_kind};
+ghost use Rattle.delivery_book.specs.Deeds.{deeds_of, is_signed as is_signed_kind};
 ghost use Rattle.delivery_book.specs.Finals.{final_of as final_version};
 ghost use Rattle.delivery_book.specs.Index.{IsStand};
 ghost use Rattle.delivery_book.specs.Lookups.{awaits_us as is_ours_to_answer, last_signed as last_text, number_at, numbers_of, own_amount as amount_of_own, seen_of};
 ghost use Rattle.delivery_book.specs.Signing.{Legal};
+ghost use Rattle.delivery_book.specs.Standing.{IsNew};
 
 mod calls;
 
 use crate::change::Change;
 use crate::delivery::{Deliveries, Delivery, is_signed};
-use crate::looking::{at, final_among, put, text_at};
+use crate::looking::{at, final_among, index_of, put, text_at};
 use dsd_journal::{Entry, EntryKind};
 use dsd_record::DsdRecord;
 use dsd_values::{Cents, DeliveryNumber, Memory, Role, SetText};
@@ -98,6 +99,13 @@ impl Rules {
         ensures { result ≡ length (numbers_of self.now.entries) }
     {
         self.deliveries.len()
+    }
+
+    /// Which of them has this number.
+    pub fn find(&self, number: &DeliveryNumber) -> Option<usize>
+        ensures { MatchOption result (IsNew number.now (deeds_of self.now.entries)) (λ index. (index < length (numbers_of self.now.entries)) × (number_at self.now.entries index ≡ number.now)) }
+    {
+        index_of(&self.deliveries, number)
     }
 
     /// The number of a delivery.

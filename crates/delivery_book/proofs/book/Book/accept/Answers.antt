@@ -1,0 +1,9 @@
+use Rattle.dsd_journal.specs.declared.entry.EntryKind.TheVariants.{Signed}
+use Rattle.delivery_book.specs.Answering.{IsAcceptance}
+use Rattle.delivery_book.specs.Refusals.{accept_fault}
+use Rattle.delivery_book.proofs.Staged.{flushes_so}
+use Rattle.delivery_book.proofs.book.Book.accept.Goals as goal
+
+pub returns-clause-told : goal.returns-clause-told
+returns-clause-told g c = λ tells asked.
+    flushes_so (accept_fault c.args.self.now.header.role c.args.self.now.known c.args.number.now c.args.signature.now) Signed (IsAcceptance c.args.self.now.header.role c.args.self.now.known c.args.number.now c.args.signature.now) c.args.self.now c.accept_later-staged.new.self _ c.make_sure.new.self c.accept_later-staged.result c.make_sure.result (g.T.Station.told c.args.station.now) (g.T.Station.told c.make_sure.new.station) c.accept_later-staged.ensures.exact c.requires.none_staged c.make_sure.ensures.refused (c.make_sure.ensures.told tells) asked
