@@ -22,6 +22,16 @@ LONGER = HEADER + b"an entry's bytes, which no job may touch"
 FAULT = b"FAULT STATION\n"
 PROGRAM = "./dex"
 
+# a delivery of two lines, and a handheld's journal that has it
+DELIVERY = (
+    b"ST*894*0001\r\nG82*D*100001*****20240229\r\nLS*0100\r\nG83*1*12*EA*012345678905****1.25\r\nG83*2*3*EA*012345678912****.3333\r\n"
+    b"LE*0100\r\nG84*15*1600\r\nG86*JONES\r\nG85*C60A\r\nSE*10*0001\r\n"
+)
+JOURNAL = HEADER[:27] + b"\xa5S\0\0\0\xac" + DELIVERY + b"\0"
+TITLE = b"JOURNAL HANDHELD HH00000001 RR00000001\n"
+SHOWN = TITLE + b"1 SIGNED 894 0001 100001 LEVEL 0 CHECK C60A\nENTRIES 1\n"
+JOURNAL_BYTES = 67_108_864
+
 passed = failed = 0
 rights = {}
 
@@ -84,6 +94,149 @@ def check(name, redirect="", journal="j.dex", before=None, after=None, begins=No
     elif stands != (before if after is None else after):
         wrong.append(f"the file is {stands}")
     told(name, wrong)
+
+
+def stamp(path):
+    """When a file was last written, or nothing where it is missing."""
+    return os.stat(path).st_mtime_ns if os.path.isfile(path) else None
+
+
+def show(name, image=None, redirect="", journal="j.dex", after=None, begins=None, status=(0,), output=None, **how):
+    """One show of a file with these bytes, or of a missing one. It stays as it was, and was not written, where after and begins are not given."""
+    if os.path.lexists("j.dex"):
+        os.unlink("j.dex")
+    if image is not None:
+        write("j.dex", image)
+        os.utime("j.dex", ns=(10**18, 10**18))
+    before = stamp("j.dex")
+    try:
+        got, printed = run(["show", journal], redirect, **how)
+    except subprocess.TimeoutExpired:
+        return told(name, ["it hangs"])
+    wrong = []
+    stands = content("j.dex")
+    if got not in status:
+        wrong.append(f"status {got}, not {' or '.join(map(str, status))}")
+    if output is not None and printed != output:
+        wrong.append(f"printed {printed[-300:]}, not {output[-300:]}")
+    if begins is not None:
+        if not (stands or b"").startswith(begins):
+            wrong.append(f"the file begins with {stands[:300]}, not {begins[:300]}")
+    elif stands != (image if after is None else after):
+        wrong.append("the file is another")
+    elif after is None and stamp("j.dex") != before:
+        wrong.append("the file was written")
+    told(name, wrong)
+
+
+def refused(place):
+    return {"status": (7,), "output": b"NOT A JOURNAL %d\n" % place}
+
+
+def shown():
+    """What a show does to files: nothing, but that a missing one is made."""
+    show("a show of a journal", JOURNAL, output=SHOWN)
+    show("a show of a journal without entries", HEADER, output=TITLE + b"ENTRIES 0\n")
+    show("a show of a missing file", after=b"", **refused(0))
+    show("a show of an empty file", b"", **refused(0))
+    show("a show of another program's file", b"\x7fELF\2\1\1\0" + bytes(100), **refused(0))
+    show("a show of 64 MiB of zeros", bytes(JOURNAL_BYTES), **refused(0))
+    for size in (1, 5, 20, 27, 28, 29, 31, 33, 34, 200, 205):
+        show(f"a show of the first {size} bytes", JOURNAL[:size], **refused(size))
+    show("a show past the closed gate", JOURNAL + JOURNAL, output=SHOWN)
+    show("a show into a device that is full", JOURNAL, "> /dev/full", status=(5,))
+    for redirect in (">&-", "<&- >&-", ">&- 2>&-"):
+        show(f"a show with {redirect}", JOURNAL, redirect, status=(0, 5))
+    show("a show with 2>&-", JOURNAL, "2>&-", output=SHOWN)
+    show("a show behind its journal", JOURNAL, ">> j.dex", begins=JOURNAL, status=(6,))
+    show("a show over its journal", JOURNAL, "1<> j.dex", status=(5,))
+    show("a show of standard input", JOURNAL, "< j.dex", status=(6,), output=FAULT)
+    show("a show by a link", JOURNAL, journal="link", output=SHOWN)
+    for name in ("fifo", "folder", "dangling", "missing/j.dex", "j.dex/", "/dev/null"):
+        show(f"a show of {name}", journal=name, status=(6,), output=FAULT)
+    show("a show where no file may grow", JOURNAL, output=SHOWN, preexec_fn=lambda: resource.setrlimit(resource.RLIMIT_FSIZE, (0, 0)), restore_signals=False)
+    write("locked.dex", JOURNAL)
+    with open("locked.dex", "rb") as file:
+        fcntl.flock(file, fcntl.LOCK_EX)
+        got, _ = run(["show", "locked.dex"])
+        told("a show of a journal that another run holds", [] if (got, content("locked.dex")) == (6, JOURNAL) else [f"status {got}"])
+    for mode in (0o000, 0o444, 0o222):
+        write("rights.dex", JOURNAL)
+        os.chmod("rights.dex", mode)
+        got, _ = run(["show", "rights.dex"], **rights)
+        os.chmod("rights.dex", 0o666)
+        told(f"a show of a file of mode {mode:o}", [] if (got, content("rights.dex")) == (6, JOURNAL) else [f"status {got}"])
+
+
+def shows_at_once():
+    """Two shows of one journal at once: one shows it, and the other does too, or is told that the journal is held."""
+    wrong = []
+    write("shared.dex", JOURNAL)
+    for turn in range(200):
+        both = [subprocess.Popen([PROGRAM, "show", "shared.dex"], stdout=subprocess.PIPE) for _ in range(2)]
+        ends = sorted((one.communicate(timeout=20)[0], one.returncode) for one in both)
+        if ends not in ([(FAULT, 6), (SHOWN, 0)], [(SHOWN, 0), (SHOWN, 0)]) or content("shared.dex") != JOURNAL:
+            wrong.append(f"turn {turn}: {ends}")
+    told("two shows at once, 200 times", wrong[:3])
+
+
+def remainder(data):
+    """The integrity value: CRC-16/ARC, by a table."""
+    check = 0
+    for byte in data:
+        check = check >> 8 ^ REMAINDERS[(check ^ byte) & 0xFF]
+    return check
+
+
+def remainder_of(value):
+    for _ in range(8):
+        value = value >> 1 ^ (0xA001 if value & 1 else 0)
+    return value
+
+
+REMAINDERS = [remainder_of(byte) for byte in range(256)]
+
+
+def padded(number, size):
+    """A delivery of no line with this many bytes in all, most of them in references, and its integrity value."""
+    head = b"ST*894*0001\r\nG82*D*%d*****20240229\r\n" % number
+    tail = b"G84*0*0\r\nG86*JONES\r\n"
+    segments, left = 6, size - len(head) - len(tail) - len(b"G85*0000\r\nSE*6*0001\r\n")
+    notes = []
+    while left:
+        more = 400 if left > 800 else left if left <= 500 else left // 2
+        notes.append(b"N9*" + b"A" * (more - 5) + b"\r\n")
+        left -= more
+        segments += 1
+        if segments in (10, 100, 1000):
+            left -= 1
+    text = head + b"".join(notes) + tail
+    check = b"%04X" % remainder(text)
+    return text + b"G85*%s\r\nSE*%d*0001\r\n" % (check, segments), check
+
+
+def longest():
+    """A receiver's journal of as many bytes as one may have, shown; and with one byte more, refused at the last entry."""
+    head = b"DEXJ1RRR00000001HH00000001\n"
+    lines = [b"JOURNAL RECEIVER RR00000001 HH00000001\n"]
+    image = [head]
+    left = JOURNAL_BYTES - len(head) - 1
+    number = 0
+    while left:
+        number += 1
+        size = min(262_144, left - 6) if not 262_150 < left < 262_400 else 200_000
+        text, check = padded(number, size)
+        assert len(text) == size, (len(text), size)
+        image.append(b"\xa5T" + size.to_bytes(4, "big") + text)
+        lines.append(b"%d TOOK 894 0001 %d LEVEL 0 CHECK %s\n" % (number, number, check))
+        left -= 6 + size
+    lines.append(b"ENTRIES %d\n" % number)
+    whole = b"".join(image) + b"\0"
+    show("a show of a journal of 67,108,864 bytes", whole, output=b"".join(lines))
+    last, _ = padded(number, size + 1)
+    longer = b"".join(image[:-1]) + b"\xa5T" + len(last).to_bytes(4, "big") + last + b"\0"
+    show("a show of a journal of one byte more", longer, **refused(len(whole) - 1 - size - 5))
+    show("a show of it, cut short by one byte", whole[:-1], **refused(len(whole) - 1))
 
 
 def plain():
@@ -253,7 +406,7 @@ def main():
         if os.geteuid() == 0:
             nobody = pwd.getpwnam("nobody")
             rights.update(user=nobody.pw_uid, group=nobody.pw_gid, extra_groups=[])
-        for part in (plain, closed, standard, others, held, denied, full, synced, race, killed):
+        for part in (plain, closed, standard, others, held, denied, full, synced, race, killed, shown, shows_at_once, longest):
             part()
         os.chdir("/")
     print(f"{passed} passed, {failed} failed")

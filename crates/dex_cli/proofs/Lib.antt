@@ -1,6 +1,10 @@
 pub mod Two
+mod ShowWords
 pub mod Five
 pub mod OneJob
 pub mod OneStatus
 pub mod SumUp
 mod Attaching
+pub mod LegalSets
+mod Rereading
+mod Composed

@@ -4,7 +4,7 @@ use Rattle.dsd_values.specs.declared.role.Role.{Role}
 use Rattle.dsd_values.specs.declared.role.Role.TheVariants.{Supplier, Receiver}
 use Rattle.dsd_journal.specs.declared.header.Header.{Header}
 use Rattle.dex_cli.specs.FormatWords.{format_words, role_word}
-use Rattle.dex_cli.specs.Words.{check_words, Spells}
+use Rattle.dex_cli.specs.Words.{check_words, show_words, Spells}
 use Rattle.dex_cli.specs.declared.format_words.NewJournal.{NewJournal}
 use Rattle.dex_cli.specs.declared.words.Job.{Job}
 use Rattle.dex_cli.specs.declared.words.Job.TheVariants as jobs
@@ -54,8 +54,34 @@ check_is_format checks.Set new e = cc
 check_is_format checks.Text new e = cc
 check_is_format checks.Line new e = cc
 
+pub check_is_show : (kind : CheckKind) (journal : List ℕ) → check_words kind ≡ show_words journal → ⊥
+check_is_show kind journal e = first_differs (check_first kind) e
+  where
+    -- the first letter of the first word
+    letter : List (List ℕ) → ℕ
+    letter words = get_or (get_or words 0 []) 0 0
+
+    check_first : (kind : CheckKind) → letter (check_words kind) ≡ 99
+    check_first checks.Set = refl
+    check_first checks.Text = refl
+    check_first checks.Line = refl
+
+    first_differs : letter (check_words kind) ≡ 99 → check_words kind ≡ show_words journal → ⊥
+    first_differs c e = let never : 99 ≡ 115 = sym c ∙ ap letter e in absurd (omega (arith, never))
+
+pub show_is_format : (journal : List ℕ) (new : NewJournal) → show_words journal ≡ format_words new → ⊥
+show_is_format journal new e = cc
+
+pub one_show : (journal other : List ℕ) → show_words journal ≡ show_words other → journal ≡ other
+one_show journal other e = cc
+
 pub one_job : (words : List (List ℕ)) (one other : Job) → Spells one words → Spells other words → one ≡ other
 one_job words (jobs.Check kind) (jobs.Check kind') s t = ap (λ (k : CheckKind). jobs.Check k) (one_kind kind kind' (sym s ∙ t))
 one_job words (jobs.Format new) (jobs.Format new') s t = ap (λ (n : NewJournal). jobs.Format n) (one_new new new' (sym s.words_are ∙ t.words_are))
 one_job words (jobs.Check kind) (jobs.Format new) s t = absurd (check_is_format kind new (sym s ∙ t.words_are))
 one_job words (jobs.Format new) (jobs.Check kind) s t = absurd (check_is_format kind new (sym t ∙ s.words_are))
+one_job words (jobs.Show journal) (jobs.Show other) s t = ap (λ (j : List ℕ). jobs.Show j) (one_show journal other (sym s.words_are ∙ t.words_are))
+one_job words (jobs.Check kind) (jobs.Show journal) s t = absurd (check_is_show kind journal (sym s ∙ t.words_are))
+one_job words (jobs.Show journal) (jobs.Check kind) s t = absurd (check_is_show kind journal (sym t ∙ s.words_are))
+one_job words (jobs.Format new) (jobs.Show journal) s t = absurd (show_is_format journal new (sym t.words_are ∙ s.words_are))
+one_job words (jobs.Show journal) (jobs.Format new) s t = absurd (show_is_format journal new (sym s.words_are ∙ t.words_are))

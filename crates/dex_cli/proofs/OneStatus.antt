@@ -12,6 +12,7 @@ use Rattle.dex_cli.specs.declared.text_summary.TextEnding.{TextEnding}
 use Rattle.dex_cli.specs.declared.text_summary.TextEnding.TheVariants as endings
 use Rattle.dex_cli.specs.Words.{Spells}
 use Rattle.dex_cli.specs.Formatting.{Served, Formats}
+use Rattle.dex_cli.specs.Showing.{Shows, IsNotAJournal}
 use Rattle.dex_cli.specs.Verdicts.{IsInput, ChecksSet, ChecksText, ChecksLine, Read, IsChecked, Does, MayCome, status_at, status_of, status_of_line}
 use Rattle.dex_cli.specs.declared.verdict.Verdict.{Verdict}
 use Rattle.dex_cli.specs.declared.verdict.Verdict.TheVariants as verdicts
@@ -23,7 +24,8 @@ use Rattle.dex_cli.specs.declared.words.Job.TheVariants as jobs
 use Rattle.dex_cli.specs.declared.words.CheckKind.{CheckKind}
 use Rattle.dex_cli.specs.declared.words.CheckKind.TheVariants as checks
 use Rattle.dex_cli.specs.declared.format_words.NewJournal.{NewJournal}
-use Rattle.dex_cli.proofs.OneJob.{check_is_format, one_kind}
+use Rattle.dex_cli.proofs.LegalSets.{shown_is_none}
+use Rattle.dex_cli.proofs.OneJob.{check_is_format, check_is_show, one_kind, show_is_format}
 use Rattle.dex_cli.specs.declared.status.TheConstants.{DONE, INPUT_REFUSED}
 
 -- ---- one input
@@ -203,6 +205,22 @@ format_job new new' one other verdicts.Formatted _ same p q f g = absurd q
 format_job new new' one other (verdicts.NotEmpty size) _ same p q f g = absurd q
 format_job new new' one other _ b same p q f g = absurd p
 
+-- a journal of legal entries is shown, and any other is not
+show_job : (journal journal' : List ℕ) (one other : Served) (a b : Verdict) → one.before.journal ≡ other.before.journal → Shows (Unit {0}) journal one a → Shows (Unit {0}) journal' other b
+    → a ≢ verdicts.StationFault → b ≢ verdicts.StationFault → status_of a ≡ status_of b
+show_job journal journal' one other (verdicts.Shown shown) (verdicts.Shown shown') same p q f g = refl
+show_job journal journal' one other (verdicts.Shown shown) (verdicts.NotAJournal place) same p q f g =
+    absurd (shown_is_none one.before.journal p.0.header p.0.entries place p.0.legal (p.0.holds tt) (subst (λ (image : List ℕ). IsNotAJournal image place) (sym same) (q tt).0))
+show_job journal journal' one other (verdicts.NotAJournal place) (verdicts.Shown shown) same p q f g =
+    absurd (shown_is_none other.before.journal q.0.header q.0.entries place q.0.legal (q.0.holds tt) (subst (λ (image : List ℕ). IsNotAJournal image place) same (p tt).0))
+show_job journal journal' one other (verdicts.NotAJournal place) (verdicts.NotAJournal place') same p q f g = refl
+show_job journal journal' one other verdicts.StationFault b same p q f g = absurd (f refl)
+show_job journal journal' one other (verdicts.Shown shown) verdicts.StationFault same p q f g = absurd (g refl)
+show_job journal journal' one other (verdicts.NotAJournal place) verdicts.StationFault same p q f g = absurd (g refl)
+show_job journal journal' one other (verdicts.Shown shown) _ same p q f g = absurd q
+show_job journal journal' one other (verdicts.NotAJournal place) _ same p q f g = absurd q
+show_job journal journal' one other _ b same p q f g = absurd p
+
 module _ (words : List (List ℕ)) (left after after' : List ℕ) (faults now now' : ℕ) (one other : Served) (a b : Verdict) (f : a ≢ verdicts.SourceFault) (f' : a ≢ verdicts.StationFault)
     (g : b ≢ verdicts.SourceFault) (g' : b ≢ verdicts.StationFault) (same : one.before.journal ≡ other.before.journal) where
   by_jobs : (job job' : Job) → Spells job words → Spells job' words → Does (Unit {0}) job (read left after after' faults now now' one other a b) one a
@@ -210,6 +228,11 @@ module _ (words : List (List ℕ)) (left after after' : List ℕ) (faults now no
   by_jobs (jobs.Format new) (jobs.Format new') s t p q = format_job new new' one other a b same p.1 q.1 f' g'
   by_jobs (jobs.Format new) (jobs.Check kind) s t p q = absurd (check_is_format kind new (sym t ∙ s.words_are))
   by_jobs (jobs.Check kind) (jobs.Format new) s t p q = absurd (check_is_format kind new (sym s ∙ t.words_are))
+  by_jobs (jobs.Show journal) (jobs.Show journal') s t p q = show_job journal journal' one other a b same p.1 q.1 f' g'
+  by_jobs (jobs.Show journal) (jobs.Check kind) s t p q = absurd (check_is_show kind journal (sym t ∙ s.words_are))
+  by_jobs (jobs.Check kind) (jobs.Show journal) s t p q = absurd (check_is_show kind journal (sym s ∙ t.words_are))
+  by_jobs (jobs.Show journal) (jobs.Format new) s t p q = absurd (show_is_format journal new (sym s.words_are ∙ t.words_are))
+  by_jobs (jobs.Format new) (jobs.Show journal) s t p q = absurd (show_is_format journal new (sym t.words_are ∙ s.words_are))
   by_jobs (jobs.Check kind) (jobs.Check kind') s t p q =
       let same_kind : kind' ≡ kind = one_kind kind' kind (sym t ∙ s) in
       check_job left after after' faults now now' one other a b kind p

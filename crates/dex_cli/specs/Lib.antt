@@ -2,7 +2,9 @@ pub mod Names
 pub mod FormatWords
 pub mod Words
 pub mod Summaries
+pub mod JournalSummaries
 pub mod TextSteps
 pub mod Texts
 pub mod Formatting
+pub mod Showing
 pub mod Verdicts

@@ -1,11 +1,16 @@
 -- The printed texts.
-use Rattle.std.specs.Prelude.{ℕ, true, false, ◌||◌, ◌==◌, if◌then◌else◌, List, [], ◌∷◌, ◌++◌, length, map, codes}
+use Rattle.std.specs.Prelude.{ℕ, ◌+◌, true, false, ◌||◌, ◌==◌, if◌then◌else◌, List, [], ◌∷◌, ◌++◌, length, map, codes}
 use Rattle.std.specs.Fmt.{decimal, signed_decimal}
 use Rattle.dsd_values.specs.Writing.{check_text, day_text}
 use Rattle.dsd_values.specs.declared.fault.ValueFault.{ValueFault}
 use Rattle.dsd_values.specs.declared.fault.ValueFault.TheVariants as faults
 use Rattle.dsd_values.specs.declared.flag.Flag.{Flag}
 use Rattle.dsd_values.specs.declared.flag.Flag.TheVariants as flags
+use Rattle.dsd_values.specs.declared.role.Role.{Role}
+use Rattle.dsd_values.specs.declared.role.Role.TheVariants.{Supplier, Receiver}
+use Rattle.dsd_journal.specs.declared.entry.EntryKind.{EntryKind}
+use Rattle.dsd_journal.specs.declared.entry.EntryKind.TheVariants.{Signed, Took}
+use Rattle.dsd_journal.specs.declared.header.Header.{Header as Head}
 use Rattle.dex_line.specs.Captured.{frames_in, is_refused}
 use Rattle.dex_line.specs.FrameShapes.{FrameShape, Enq, Ack0, Ack1, Nak, Eot, Header, Block, Damaged, Bad}
 use Rattle.segments.specs.declared.segment_fault.SegmentFault.{SegmentFault}
@@ -14,6 +19,10 @@ use Rattle.segments.specs.declared.set_fault.SetReason.{SetReason}
 use Rattle.segments.specs.declared.set_fault.SetReason.TheVariants as set_reasons
 use Rattle.dxs_envelope.specs.declared.fault.EnvelopeReason.{EnvelopeReason}
 use Rattle.dxs_envelope.specs.declared.fault.EnvelopeReason.TheVariants as envelope_reasons
+use Rattle.dex_cli.specs.declared.entry_summary.EntryForm.{EntryForm}
+use Rattle.dex_cli.specs.declared.entry_summary.EntryForm.TheVariants as entry_forms
+use Rattle.dex_cli.specs.declared.entry_summary.EntrySummary.{EntrySummary}
+use Rattle.dex_cli.specs.declared.journal_summary.JournalSummary.{JournalSummary}
 use Rattle.dex_cli.specs.declared.refusal.Reason.{Reason}
 use Rattle.dex_cli.specs.declared.refusal.Reason.TheVariants as reasons
 use Rattle.dex_cli.specs.declared.refusal.Refusal.{Refusal}
@@ -148,6 +157,53 @@ abbrev pub frames_text : List (ℕ × FrameShape) → List ℕ
 frames_text [] = line (codes "OK")
 frames_text (frame ∷ more) = frame_line frame.0 frame.1 ++ (if is_refused frame.1 then [] else frames_text more)
 
+-- ---- a journal
+
+-- the supplier's end is the handheld
+abbrev pub title_text : Role → List ℕ
+title_text Supplier = codes "JOURNAL HANDHELD"
+title_text Receiver = codes "JOURNAL RECEIVER"
+
+-- whose it is: the end, its communication id and its peer's
+abbrev pub header_line : Head → List ℕ
+header_line header = line (both (title_text header.role) (both header.own header.peer))
+
+abbrev pub kind_text : EntryKind → List ℕ
+kind_text Signed = codes "SIGNED"
+kind_text Took = codes "TOOK"
+
+abbrev pub set_name_text : EntryForm → List ℕ
+set_name_text entry_forms.Base = codes "894"
+set_name_text (entry_forms.Adjustment level) = codes "895"
+set_name_text (entry_forms.Acceptance level check) = codes "895"
+
+-- the level of a proposal, or the level and the integrity value of the proposal that is accepted
+abbrev pub standing_text : EntryForm → List ℕ
+standing_text entry_forms.Base = codes "LEVEL 0"
+standing_text (entry_forms.Adjustment level) = both (codes "LEVEL") (decimal level)
+standing_text (entry_forms.Acceptance level check) = both (codes "ACCEPTS") (both (decimal level) (check_text check))
+
+-- what was done, and with which set
+abbrev pub deed_text : EntrySummary → List ℕ
+deed_text entry = both (kind_text entry.kind) (set_name_text entry.form)
+
+-- the same, its control number, its delivery, and what it proposes or accepts
+unfoldable pub words_text : EntrySummary → List ℕ
+words_text entry = both (deed_text entry) (both entry.control (both entry.number (standing_text entry.form)))
+
+-- its number in the journal, its words, and its own integrity value
+unfoldable pub entry_line : ℕ → EntrySummary → List ℕ
+entry_line number entry = line (both (decimal number) (both (words_text entry) (both (codes "CHECK") (check_text entry.check))))
+
+-- numbered on from this number
+abbrev pub entries_text : ℕ → List EntrySummary → List ℕ
+entries_text number [] = []
+entries_text number (entry ∷ entries) = entry_line number entry ++ entries_text (number + 1) entries
+
+-- whose it is, each entry, and how many there are
+unfoldable pub journal_text : JournalSummary → List ℕ
+journal_text journal = header_line journal.header ++ entries_text 1 journal.entries.items ++ line (both (codes "ENTRIES") (decimal (length journal.entries.items)))
+
 -- ---- all that is printed of a run
 
 unfoldable pub printed : Verdict → List ℕ
@@ -160,3 +216,5 @@ printed (verdicts.Text text) = sets_text text.sets.items ++ ending_text (length 
 printed (verdicts.Line captured) = frames_text (frames_in captured.items)
 printed verdicts.Formatted = line (codes "FORMATTED")
 printed (verdicts.NotEmpty size) = line (both (codes "NOT EMPTY") (decimal size))
+printed (verdicts.Shown journal) = journal_text journal
+printed (verdicts.NotAJournal place) = line (both (codes "NOT A JOURNAL") (decimal place))

@@ -9,6 +9,7 @@ use Rattle.dxs_envelope.specs.FirstFault.{told_of}
 use Rattle.dex_cli.specs.Summaries.{IsNoSet, IsSummary, IsSummedUp}
 use Rattle.dex_cli.specs.Words.{Spells, IsOfNoJob}
 use Rattle.dex_cli.specs.Formatting.{Served, Formats}
+use Rattle.dex_cli.specs.Showing.{Shows}
 use Rattle.dex_cli.specs.declared.job.TheConstants.{INPUT_BYTES}
 use Rattle.dex_cli.specs.declared.refusal.Refusal.{Refusal}
 use Rattle.dex_cli.specs.declared.refusal.Reason.TheVariants as reasons
@@ -81,10 +82,11 @@ pub record IsChecked (kind : CheckKind) (read : Read) (verdict : Verdict) : Type
   pub read_is : IsInput read.left read.after input
   pub checks : Checks kind input verdict
 
--- What a job comes to, by what was read and what its station told. A check leaves the station alone, and a `format` the source.
+-- What a job comes to, by what was read and what its station told. A check leaves the station alone, and a `format` and a `show` the source.
 abbrev pub Does : Type 0 → Job → Read → Served → Verdict → Type 0
 Does tells (jobs.Check kind) read served verdict = IsUnread read verdict ⊎ IsChecked kind read verdict
 Does tells (jobs.Format new) read served verdict = (read.after ≡ read.left) × Formats tells new served verdict
+Does tells (jobs.Show journal) read served verdict = (read.after ≡ read.left) × Shows tells journal served verdict
 
 -- The words are those of no job.
 pub record IsNoJob (words : List (List ℕ)) (read : Read) (verdict : Verdict) : Type 0 where
@@ -131,3 +133,5 @@ status_of (verdicts.Text text) = status_at text.ending
 status_of (verdicts.Line captured) = status_of_line captured.items
 status_of verdicts.Formatted = DONE
 status_of (verdicts.NotEmpty size) = JOURNAL_REFUSED
+status_of (verdicts.Shown journal) = DONE
+status_of (verdicts.NotAJournal place) = JOURNAL_REFUSED

@@ -1,6 +1,7 @@
 -- The words that spell a job.
-use Rattle.std.specs.Prelude.{ℕ, ◌≡◌, List, [], ◌∷◌, codes}
+use Rattle.std.specs.Prelude.{ℕ, ◌≡◌, ◌⊎◌, List, [], ◌∷◌, codes}
 use Rattle.dex_cli.specs.FormatWords.{SpellsFormat}
+use Rattle.dex_cli.specs.Names.{IsName}
 use Rattle.dex_cli.specs.declared.format_words.NewJournal.{NewJournal}
 use Rattle.dex_cli.specs.declared.words.Job.{Job}
 use Rattle.dex_cli.specs.declared.words.Job.TheVariants as jobs
@@ -12,10 +13,20 @@ check_words checks.Set = codes "check" ∷ codes "set" ∷ []
 check_words checks.Text = codes "check" ∷ codes "text" ∷ []
 check_words checks.Line = codes "check" ∷ codes "line" ∷ []
 
+-- the words of a `show`
+abbrev pub show_words : List ℕ → List (List ℕ)
+show_words journal = codes "show" ∷ journal ∷ []
+
+-- These are the words of a `show` of this journal.
+pub record SpellsShow (journal : List ℕ) (words : List (List ℕ)) : Type 0 where
+  pub name : IsName journal
+  pub words_are : words ≡ show_words journal
+
 -- These are the words of this job.
 abbrev pub Spells : Job → List (List ℕ) → Type 0
 Spells (jobs.Check kind) words = words ≡ check_words kind
 Spells (jobs.Format new) words = SpellsFormat new words
+Spells (jobs.Show journal) words = SpellsShow journal words
 
 -- the words are those of no job
 abbrev pub IsOfNoJob : List (List ℕ) → Type 0
@@ -28,3 +39,11 @@ AsksCheck words = (kind : CheckKind) × Spells (jobs.Check kind) words
 -- the words are those of a `format`
 abbrev pub AsksFormat : List (List ℕ) → Type 0
 AsksFormat words = (new : NewJournal) × Spells (jobs.Format new) words
+
+-- the words are those of a `show`
+abbrev pub AsksShow : List (List ℕ) → Type 0
+AsksShow words = (journal : List ℕ) × Spells (jobs.Show journal) words
+
+-- the words are those of a job on a journal
+abbrev pub AsksJournal : List (List ℕ) → Type 0
+AsksJournal words = AsksFormat words ⊎ AsksShow words

@@ -1,14 +1,16 @@
 //! The top call.
 
-ghost use Rattle.std.specs.Prelude.{◌≡◌, ◌≢◌, ◌⊎◌, ◌+◌, ◌≤◌, ℕ, IfOk, IsOk, OnErr, map, string_bytes};
+ghost use Rattle.std.specs.Prelude.{◌≡◌, ◌≢◌, ◌⊎◌, ◌+◌, ◌≤◌, ℕ, List, IfOk, IsOk, OnErr, map, string_bytes};
 ghost use Rattle.std.specs.Io.KnownBytes.{Appends, Keeps};
 ghost use Rattle.dsd_station.specs.Causes.{Rose, TakesUpTo, WritesFront};
 ghost use Rattle.dex_cli.specs.Texts.{printed};
 ghost use Rattle.dex_cli.specs.Verdicts.{read_of, Checks, IsUnread, IsChecked, IsComposed, MayCome, status_of};
-ghost use Rattle.dex_cli.specs.Words.{AsksCheck, AsksFormat, IsOfNoJob};
+ghost use Rattle.dex_cli.specs.Words.{AsksCheck, AsksJournal, AsksShow, IsOfNoJob, Spells};
 ghost use Rattle.dex_cli.specs.Formatting.{served_of};
+ghost use Rattle.dex_cli.specs.Showing.{LooksAt};
 ghost use Rattle.dex_cli.specs.declared.verdict.Verdict.{Verdict as VerdictValue};
 ghost use Rattle.dex_cli.specs.declared.verdict.Verdict.TheVariants as verdicts;
+ghost use Rattle.dex_cli.specs.declared.words.Job.TheVariants as jobs;
 
 use crate::check_set::check_set;
 use crate::check_text::check_text;
@@ -16,6 +18,7 @@ use crate::fault::WordsFault;
 use crate::formatting::make_journal;
 use crate::refusal::{Reason, Refusal};
 use crate::report::report_of;
+use crate::showing::show_journal;
 use crate::status::{NO_MEMORY, SINK_FAILED};
 use crate::verdict::Verdict;
 use crate::words::{CheckKind, Job, read_words};
@@ -46,16 +49,19 @@ pub fn dex<S: Source, K: Sink, T: Station>(
         × WritesFront (K.written sink.old) (K.written sink.new) (printed verdict)) }
 
     // Memory was wanting before anything was written. Of the source no more was taken than the limit and one byte, and the
-    // station was not used, or its journal is not empty.
+    // station was not used, or its journal is not empty, or a `show` looked at it.
     ensures memory { result ≡ NO_MEMORY → Keeps (K.written sink.old) (K.written sink.new) × TakesUpTo (INPUT_BYTES + 1) (S.left source.old) (S.left source.new)
-        × ((station.new ≡ station.old) ⊎ ((size : ℕ) × MayCome T.tells (map string_bytes words.now) (read_of S.left S.faults source.old source.new) (served_of T.told T.faults station.old station.new) (verdicts.NotEmpty size))) }
+        × ((station.new ≡ station.old) ⊎ (AsksShow (map string_bytes words.now) ⊎ ((size : ℕ) × MayCome T.tells (map string_bytes words.now) (read_of S.left S.faults source.old source.new) (served_of T.told T.faults station.old station.new) (verdicts.NotEmpty size)))) }
 
     // Words of no job take no memory.
     ensures words { IsOfNoJob (map string_bytes words.now) → result ≢ NO_MEMORY }
 
-    // A check alone reads the source, and a `format` alone uses the station.
+    // A check alone reads the source, and a job on a journal alone uses the station.
     ensures unread { (AsksCheck (map string_bytes words.now) → ⊥) → source.new ≡ source.old }
-    ensures idle { (AsksFormat (map string_bytes words.now) → ⊥) → station.new ≡ station.old }
+    ensures idle { (AsksJournal (map string_bytes words.now) → ⊥) → station.new ≡ station.old }
+
+    // Whatever a `show` answers, it writes nothing: the journal is as it was.
+    ensures looked { T.tells → (journal : List ℕ) → Spells (jobs.Show journal) (map string_bytes words.now) → LooksAt journal (T.told station.old) (T.told station.new) }
 
     ensures source_count { S.faults source.old ≤ S.faults source.new }
     ensures sink_count { K.faults sink.old ≤ K.faults sink.new }
@@ -75,17 +81,19 @@ fn verdict_of<S: Source, T: Station>(
     station: &mut T,
 ) -> Result<Verdict, AllocError>
     ensures may { IfOk result (MayCome T.tells (map string_bytes words.now) (read_of S.left S.faults source.old source.new) (served_of T.told T.faults station.old station.new)) }
-    ensures memory { OnErr result (station.new ≡ station.old) }
+    ensures memory { OnErr result ((station.new ≡ station.old) ⊎ AsksShow (map string_bytes words.now)) }
     ensures taken { OnErr result (TakesUpTo (INPUT_BYTES + 1) (S.left source.old) (S.left source.new)) }
     ensures words { IsOfNoJob (map string_bytes words.now) → IsOk result }
     ensures unread { (AsksCheck (map string_bytes words.now) → ⊥) → source.new ≡ source.old }
-    ensures idle { (AsksFormat (map string_bytes words.now) → ⊥) → station.new ≡ station.old }
+    ensures idle { (AsksJournal (map string_bytes words.now) → ⊥) → station.new ≡ station.old }
+    ensures looked { T.tells → (journal : List ℕ) → Spells (jobs.Show journal) (map string_bytes words.now) → LooksAt journal (T.told station.old) (T.told station.new) }
     ensures later { S.faults source.old ≤ S.faults source.new }
     ensures station_count { T.faults station.old ≤ T.faults station.new }
 {
     match read_words(alloc, words) {
         Ok(Job::Check(kind)) => check(alloc, kind, source),
         Ok(Job::Format(new)) => Ok(make_journal(&new, station)),
+        Ok(Job::Show(journal)) => show_journal(alloc, &journal, station),
         Err(WordsFault::Refused) => Ok(Verdict::Words),
         Err(WordsFault::Memory) => Err(AllocError),
     }

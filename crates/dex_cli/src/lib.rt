@@ -4,25 +4,31 @@
 mod check_line;
 mod check_set;
 mod check_text;
+mod entry_summary;
 mod fault;
 mod format_words;
 mod formatting;
 mod job;
+mod journal_summary;
 pub mod laws;
 mod lines;
 mod name;
 mod reasons;
 mod refusal;
 mod report;
+mod show_words;
+mod showing;
 mod status;
 mod summary;
 mod text_summary;
 mod verdict;
 mod words;
 
+pub use entry_summary::{EntryForm, EntrySummary};
 pub use fault::WordsFault;
 pub use format_words::NewJournal;
 pub use job::{INPUT_BYTES, dex};
+pub use journal_summary::JournalSummary;
 pub use name::Name;
 pub use refusal::{Reason, Refusal};
 pub use status::{

@@ -33,6 +33,20 @@ pub fn put_signed(alloc: Global, out: &mut Vec<u8>, number: i128) -> Result<(), 
     out.extend_from_slice(text.as_bytes())
 }
 
+/// A name and a number.
+pub fn put_named(
+    alloc: Global,
+    out: &mut Vec<u8>,
+    name: &str,
+    number: u64,
+) -> Result<(), AllocError>
+    ensures { OnOk result (out.new.items ≡ out.old.items ++ both name.now (decimal number)) }
+{
+    put(out, name)?;
+    put(out, " ")?;
+    put_number(alloc, out, number)
+}
+
 /// A line of a name and a text.
 pub fn put_pair(out: &mut Vec<u8>, name: &str, text: &[u8]) -> Result<(), AllocError>
     ensures { OnOk result (out.new.items ≡ out.old.items ++ line (both name.now text.now)) }

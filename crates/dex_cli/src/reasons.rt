@@ -4,7 +4,7 @@ ghost use Rattle.std.specs.Prelude.{◌≡◌, ◌++◌, codes, OnOk};
 ghost use Rattle.std.specs.Fmt.{decimal};
 ghost use Rattle.dex_cli.specs.Texts.{both, fault_text, segment_fault_text, set_reason_text};
 
-use crate::lines::{put, put_bytes, put_number, put_signed};
+use crate::lines::{put, put_bytes, put_named, put_number, put_signed};
 use dsd_values::{ValueFault, write_check};
 use segments::{SegmentFault, SetReason};
 use std::alloc::{AllocError, Global};
@@ -20,15 +20,6 @@ pub fn segment_fault(fault: SegmentFault) -> &'static str
         SegmentFault::TooLong(_) => "SEGMENT TOOLONG",
         SegmentFault::TooManyElements(_) => "SEGMENT ELEMENTS",
     }
-}
-
-/// A name and a number.
-fn put_named(alloc: Global, out: &mut Vec<u8>, name: &str, number: u64) -> Result<(), AllocError>
-    ensures { OnOk result (out.new.items ≡ out.old.items ++ both name.now (decimal number)) }
-{
-    put(out, name)?;
-    put(out, " ")?;
-    put_number(alloc, out, number)
 }
 
 fn put_fault(alloc: Global, out: &mut Vec<u8>, fault: ValueFault) -> Result<(), AllocError>

@@ -4,10 +4,11 @@ ghost use Rattle.std.specs.Prelude.{◌≡◌, ◌++◌, codes, OnErr, IfOk, len
 ghost use Rattle.std.specs.Cow.{cow_slice_items};
 ghost use Rattle.std.specs.Fmt.{decimal};
 ghost use Rattle.dex_line.specs.Captured.{frames_in};
-ghost use Rattle.dex_cli.specs.Texts.{line, both, ending_text, frames_text, printed, refused_line, set_text, sets_text};
+ghost use Rattle.dex_cli.specs.Texts.{line, both, ending_text, frames_text, journal_text, printed, refused_line, set_text, sets_text};
 ghost use Rattle.dex_cli.specs.Verdicts.{IsComposed, status_at, status_of, status_of_line};
 
 use crate::check_line::put_captured;
+use crate::journal_summary::{JournalSummary, put_journal};
 use crate::lines::{put, put_count};
 use crate::refusal::{Refusal, put_refusal};
 use crate::status::{
@@ -42,7 +43,9 @@ pub fn report_of(alloc: Global, verdict: &Verdict) -> Result<Report, AllocError>
         Verdict::Set(set) => of_set(alloc, set),
         Verdict::Text(text) => of_text(alloc, text),
         Verdict::Line(captured) => of_line(alloc, captured),
-        Verdict::NotEmpty(size) => of_size(alloc, *size),
+        Verdict::NotEmpty(size) => of_journal_fault(alloc, "NOT EMPTY", *size),
+        Verdict::Shown(journal) => of_journal(alloc, journal),
+        Verdict::NotAJournal(place) => of_journal_fault(alloc, "NOT A JOURNAL", *place),
     }
 }
 
@@ -103,11 +106,21 @@ fn of_line(alloc: Global, captured: &[u8]) -> Result<Report, AllocError>
     Ok(made(out, status))
 }
 
-fn of_size(alloc: Global, size: u64) -> Result<Report, AllocError>
-    ensures text { IfOk result (λ report. cow_slice_items report.text ≡ line (both (codes "NOT EMPTY") (decimal size))) }
+fn of_journal(alloc: Global, journal: &JournalSummary) -> Result<Report, AllocError>
+    ensures text { IfOk result (λ report. cow_slice_items report.text ≡ journal_text journal.now) }
+    ensures status { IfOk result (λ report. report.status ≡ DONE) }
+{
+    let mut out = Vec::new(alloc);
+    put_journal(alloc, &mut out, journal)?;
+    Ok(made(out, DONE))
+}
+
+/// The report of a journal that is refused: what is wrong with it, and a number of bytes.
+fn of_journal_fault(alloc: Global, name: &str, bytes: u64) -> Result<Report, AllocError>
+    ensures text { IfOk result (λ report. cow_slice_items report.text ≡ line (both name.now (decimal bytes))) }
     ensures status { IfOk result (λ report. report.status ≡ JOURNAL_REFUSED) }
 {
     let mut out = Vec::new(alloc);
-    put_count(alloc, &mut out, "NOT EMPTY", size)?;
+    put_count(alloc, &mut out, name, bytes)?;
     Ok(made(out, JOURNAL_REFUSED))
 }

@@ -18,7 +18,7 @@ pub const SINK_FAILED: u8 = 5;
 /// A call of the station failed.
 pub const STATION_FAILED: u8 = 6;
 
-/// The journal is refused: one that was to be made is not empty.
+/// The journal is refused: one that was to be made is not empty, or one that was to be shown is none.
 pub const JOURNAL_REFUSED: u8 = 7;
 
 /// Memory is wanting.

@@ -1,5 +1,6 @@
 //! What a run comes to.
 
+use crate::journal_summary::JournalSummary;
 use crate::refusal::Refusal;
 use crate::summary::SetSummary;
 use crate::text_summary::TextSummary;
@@ -25,4 +26,8 @@ pub enum Verdict {
     Formatted,
     /// The journal has so many bytes already, and was left as it is.
     NotEmpty(u64),
+    /// The journal holds entries, of which this is printed.
+    Shown(JournalSummary),
+    /// It holds none that are legal for the end whose journal it is, and is refused at this place.
+    NotAJournal(u64),
 }

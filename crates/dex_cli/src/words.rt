@@ -1,10 +1,12 @@
 //! The words of the command line.
 
 ghost use Rattle.std.specs.Prelude.{◌≡◌, ◌↔◌, IfOk, IsTrue, IsErrOf, map, string_bytes, [], ◌∷◌};
-ghost use Rattle.dex_cli.specs.Words.{AsksFormat, IsOfNoJob, Spells};
+ghost use Rattle.dex_cli.specs.Words.{AsksJournal, IsOfNoJob, Spells};
 
 use crate::fault::WordsFault;
 use crate::format_words::{NewJournal, read_format};
+use crate::name::Name;
+use crate::show_words::read_show;
 use std::alloc::Global;
 
 /// What is checked.
@@ -25,13 +27,15 @@ pub enum Job {
     Check(CheckKind),
     /// `format ROLE OWN PEER JOURNAL`: makes a journal.
     Format(NewJournal),
+    /// `show JOURNAL`: prints the entries of a journal.
+    Show(Name),
 }
 
 /// The job that the words, those after the program's name, spell. Only a journal's name takes memory.
 pub fn read_words(alloc: Global, words: &[String]) -> Result<Job, WordsFault>
     ensures found { IfOk result (λ job. Spells job (map string_bytes words.now)) }
     ensures refused { IsErrOf result WordsFault.Refused → IsOfNoJob (map string_bytes words.now) }
-    ensures memory { IsErrOf result WordsFault.Memory → AsksFormat (map string_bytes words.now) }
+    ensures memory { IsErrOf result WordsFault.Memory → AsksJournal (map string_bytes words.now) }
 {
     if are(words, "check", "set") {
         return Ok(Job::Check(CheckKind::Set));
@@ -42,9 +46,22 @@ pub fn read_words(alloc: Global, words: &[String]) -> Result<Job, WordsFault>
     if are(words, "check", "line") {
         return Ok(Job::Check(CheckKind::Line));
     }
-    match read_format(alloc, words) {
-        Ok(new) => Ok(Job::Format(new)),
-        Err(fault) => Err(fault),
+    read_journal_job(alloc, words)
+}
+
+/// The job on a journal that the words spell.
+fn read_journal_job(alloc: Global, words: &[String]) -> Result<Job, WordsFault>
+    ensures found { IfOk result (λ job. Spells job (map string_bytes words.now)) }
+    ensures refused { IsErrOf result WordsFault.Refused → AsksJournal (map string_bytes words.now) → ⊥ }
+    ensures memory { IsErrOf result WordsFault.Memory → AsksJournal (map string_bytes words.now) }
+{
+    match read_show(alloc, words) {
+        Ok(journal) => Ok(Job::Show(journal)),
+        Err(WordsFault::Refused) => match read_format(alloc, words) {
+            Ok(new) => Ok(Job::Format(new)),
+            Err(fault) => Err(fault),
+        },
+        Err(WordsFault::Memory) => Err(WordsFault::Memory),
     }
 }
 
