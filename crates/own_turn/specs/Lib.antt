@@ -1,0 +1,9 @@
+pub mod Choosing
+pub mod DueSets
+pub mod OwnTurn
+pub mod TurnsGrow
+pub mod NextEntry
+pub mod Desks
+pub mod AskedInside
+pub mod GatheredInside
+pub mod Staging
