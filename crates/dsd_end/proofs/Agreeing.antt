@@ -19,7 +19,8 @@ use Rattle.dsd_end.specs.Lives.{IsLife, IsLifeFrom, last_list}
 use Rattle.dsd_end.specs.Runs.{Run, bytes_heard}
 use Rattle.dsd_end.specs.Sealing.{IsBlockOf}
 use Rattle.dsd_end.specs.Speaking.{AreSigned, IsBacked}
-use Rattle.dsd_end.proofs.Growing.{Grows, all_signed_grow, each_grows, last_legal, run_of, signed_set, taken_carried, taken_set}
+use Rattle.own_turn.proofs.LegalTexts.{signed_set, taken_set}
+use Rattle.dsd_end.proofs.Growing.{Grows, all_signed_grow, each_grows, last_legal, run_of, taken_carried}
 use Rattle.dsd_end.proofs.SpokenFrames.{frames_weaker, occurs_frame}
 use Rattle.dsd_end.proofs.Trailers.{sealed_by_one}
 

@@ -14,7 +14,7 @@ use Rattle.dxs_envelope.specs.Views.{SetAt}
 use Rattle.dxs_envelope.proofs.Standing.{told_stand}
 use Rattle.dsd_end.specs.Carrying.{Carried, OccurInOrder, texts_in}
 use Rattle.dsd_end.specs.SoFar.{CarriesText}
-use Rattle.dsd_end.specs.OwnTurn.{sets_lent}
+use Rattle.own_turn.specs.OwnTurn.{sets_lent}
 use Rattle.delivery_book.proofs.Listed.{map_in}
 use Rattle.delivery_book.proofs.Members.{from_contains, to_contains}
 use Rattle.dsd_end.proofs.Onward.{occur_more}

@@ -7,13 +7,12 @@ use Rattle.std.proofs.lemmas.List.{map-append}
 use Rattle.dsd_values.specs.declared.role.Role.{Role}
 use Rattle.dsd_journal.specs.declared.entry.Entry.{Entry}
 use Rattle.delivery_book.specs.Deeds.{is_signed, signed_texts, taken_texts}
-use Rattle.delivery_book.specs.Signing.{Legal, LegalFrom}
-use Rattle.delivery_book.proofs.Listed.{map_in, text_in}
-use Rattle.delivery_book.proofs.Members.{In, filter_in, from_contains}
+use Rattle.delivery_book.specs.Signing.{Legal}
+use Rattle.delivery_book.proofs.Listed.{text_in}
+use Rattle.delivery_book.proofs.Members.{In}
 use Rattle.dsd_end.specs.Carrying.{Carried}
 use Rattle.dsd_end.specs.Lives.{IsLifeFrom, IsRun, last_from}
 use Rattle.dsd_end.specs.Runs.{Run, bytes_heard}
-use Rattle.dsd_end.specs.Sealing.{IsSomeSet}
 use Rattle.dsd_end.specs.Speaking.{AreSigned}
 
 -- ---- the texts of more entries
@@ -87,21 +86,3 @@ run_of role entries [] run life none = absurd none
 run_of role entries (first ∷ later) run (e, r, life) (inl same) =
     subst (λ (x : Run). IsRun role x × Grows x.after (last_from first.after later)) same (r, life_grows role first.after later life)
 run_of role entries (first ∷ later) run (e, r, life) (inr among) = run_of role first.after later run life among
-
--- ---- legal entries are sets
-
-entry_set : (role : Role) (before entries : List Entry) (entry : Entry) → LegalFrom role before entries → In entry entries → IsSomeSet entry.payload
-entry_set role before [] entry legal none = absurd none
-entry_set role before (first ∷ entries) entry (allowed, legal) (inl same) = subst (λ (x : Entry). IsSomeSet x.payload) same (allowed.set, allowed.is_set)
-entry_set role before (first ∷ entries) entry (allowed, legal) (inr among) = entry_set role (before ++ first ∷ []) entries entry legal among
-
-legal_text : (role : Role) (entries : List Entry) (test : Entry → Bool) (text : List ℕ) → Legal role entries → Contains (map text_in (filter test entries)) text → IsSomeSet text
-legal_text role entries test text legal inside =
-    let image = map_in text_in (filter test entries) text (from_contains (map text_in (filter test entries)) text inside) in
-    subst IsSomeSet image.same (entry_set role [] entries image.from legal (filter_in test entries image.from image.among).among)
-
-pub signed_set : (role : Role) (entries : List Entry) (text : List ℕ) → Legal role entries → Contains (signed_texts entries) text → IsSomeSet text
-signed_set role entries text legal inside = legal_text role entries (λ (entry : Entry). is_signed entry.kind) text legal inside
-
-pub taken_set : (role : Role) (entries : List Entry) (text : List ℕ) → Legal role entries → Contains (taken_texts entries) text → IsSomeSet text
-taken_set role entries text legal inside = legal_text role entries (λ (entry : Entry). not (is_signed entry.kind)) text legal inside

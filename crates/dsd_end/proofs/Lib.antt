@@ -6,7 +6,6 @@ pub mod Trailers
 pub mod SpokenFrames
 pub mod Growing
 pub mod Agreeing
-pub mod TurnsGrowing
 pub mod Polling
 pub mod LineFollows
 pub mod LinedPolls
@@ -20,3 +19,19 @@ pub mod SoundPolls
 pub mod PollsRun
 pub mod OneOutcome
 pub mod SoFarOn
+pub mod RunsComing
+pub mod RunsLeft
+pub mod FrontsHeard
+pub mod CallsMade
+pub mod Talking
+pub mod StepsGoing
+pub mod RunsThrough
+pub mod PiecesThrough
+pub mod AnswersThrough
+pub mod RunsPolled
+pub mod QuietRows
+pub mod MachineSteps
+pub mod Waiting
+pub mod PollsJoined
+pub mod Opened
+pub mod Filling

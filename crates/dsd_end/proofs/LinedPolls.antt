@@ -72,7 +72,7 @@ module _ (chooser : Chooser) where
 
 -- ---- polls
 
-has_come : (line : Line) → has_ended line ≡ true → (end : SessionEnd) × (line ≡ Ended end)
+pub has_come : (line : Line) → has_ended line ≡ true → (end : SessionEnd) × (line ≡ Ended end)
 has_come (Ended end) e = (end, refl)
 has_come (Ready own) e = absurd (cc)
 has_come (Bidding own load) e = absurd (cc)

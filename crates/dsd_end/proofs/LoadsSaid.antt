@@ -18,7 +18,7 @@ use Rattle.delivery_book.specs.Deeds.{Deed, deeds_of, is_signed, signed_of, sign
 use Rattle.delivery_book.specs.Lookups.{last_of, last_signed, numbers_of}
 use Rattle.delivery_book.proofs.Listed.{signed_kind, signed_text}
 use Rattle.delivery_book.proofs.Members.{In, filter_in}
-use Rattle.dsd_end.specs.DueSets.{Asked, DueSet, asked_of, due_of, due_sets, has_room, is_due, reached, texts_of}
+use Rattle.own_turn.specs.DueSets.{Asked, DueSet, asked_of, due_of, due_sets, has_room, is_due, reached, texts_of}
 use Rattle.dsd_end.specs.SoFar.{MayGoOut}
 use Rattle.dsd_end.specs.Speaking.{AreSigned, IsCutFrom}
 

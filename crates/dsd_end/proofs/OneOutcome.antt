@@ -22,9 +22,9 @@ use Rattle.dsd_journal.specs.declared.header.Header.{Header}
 use Rattle.delivery_book.specs.Answering.{IsAcceptance, IsAdjustment, answer_to}
 use Rattle.delivery_book.specs.Lookups.{own_amount}
 use Rattle.delivery_book.specs.Signing.{next_control}
-use Rattle.dsd_end.specs.Choosing.{AnswersBy, ChoosesAnswer, ChoosesDraft}
-use Rattle.dsd_end.specs.DueSets.{DueSet}
-use Rattle.dsd_end.specs.OwnTurn.{Answers, AnswersEach, Desk, InTurn, IsLoad, Proposes, ProposesEach, Takes, TakesSet, Turned, awaiting, gathered, is_acceptance, lent, next_turn, sets_lent, spoken, with_fault, with_signature}
+use Rattle.own_turn.specs.Choosing.{AnswersBy, ChoosesAnswer, ChoosesDraft}
+use Rattle.own_turn.specs.DueSets.{DueSet}
+use Rattle.own_turn.specs.OwnTurn.{Answers, AnswersEach, Desk, InTurn, IsLoad, Proposes, ProposesEach, Takes, TakesSet, Turned, awaiting, gathered, is_acceptance, lent, next_turn, sets_lent, spoken, with_fault, with_signature}
 use Rattle.dsd_end.specs.PollStep.{ActsAt, Done, Hears, HearsBroken, HearsFrame, HearsFrames, HearsUnless, Next, PollsAt, behind_piece, gave, joined, scanned, stepped}
 use Rattle.dsd_end.specs.Standings.{Standing, has_ended, with_begun}
 

@@ -7,11 +7,11 @@ use Rattle.dex_handshake.specs.LineTable.{Line, Ready, Bidding, Awaiting, SentAl
 use Rattle.dsd_record.specs.Choices.{Chooser}
 use Rattle.dsd_station.specs.declared.call.Reception.{Reception}
 use Rattle.dsd_station.specs.declared.call.Reception.TheVariants.{Piece, Silence, Cut}
-use Rattle.dsd_end.specs.OwnTurn.{sets_lent}
+use Rattle.own_turn.specs.OwnTurn.{sets_lent}
 use Rattle.dsd_end.specs.PollStep.{ActsAt, Along, Done, Hears, HearsBroken, HearsFrame, HearsFrames, HearsUnless, Next, PollsAt, joined, nothing, scanned, stepped}
 use Rattle.dsd_end.specs.Standings.{Standing, has_ended, with_begun}
-use Rattle.dsd_end.specs.TurnsGrow.{IsGrown}
-use Rattle.dsd_end.proofs.TurnsGrowing.{grown_on, grown_same, turn_grows}
+use Rattle.own_turn.specs.TurnsGrow.{IsGrown}
+use Rattle.own_turn.proofs.TurnsGrowing.{grown_on, grown_same, turn_grows}
 
 -- ---- joining
 

@@ -11,14 +11,14 @@ use Rattle.dsd_station.specs.declared.call.Reception.{Reception}
 use Rattle.dsd_journal.specs.declared.entry.Entry.{Entry}
 use Rattle.dsd_journal.specs.declared.entry.EntryKind.{EntryKind}
 use Rattle.dsd_journal.specs.declared.entry.EntryKind.TheVariants.{Signed, Took}
-use Rattle.dsd_end.specs.Choosing.{Chosen}
+use Rattle.own_turn.specs.Choosing.{Chosen}
 use Rattle.delivery_book.specs.Deeds.{is_signed, taken_texts}
 use Rattle.delivery_book.specs.Signing.{Legal}
 use Rattle.dsd_end.specs.Carrying.{Carried}
 use Rattle.dsd_end.specs.Lives.{IsRunOf}
 use Rattle.dsd_end.specs.Runs.{Run, bytes_heard}
 use Rattle.dsd_end.specs.Speaking.{Speaks}
-use Rattle.dsd_end.specs.TurnsGrow.{AreNew, IsGrown, IsNewAs}
+use Rattle.own_turn.specs.TurnsGrow.{AreNew, IsGrown, IsNewAs}
 use Rattle.dsd_end.proofs.GoingOut.{whole_speaks}
 use Rattle.dsd_end.proofs.Growing.{Grows}
 use Rattle.delivery_book.proofs.Members.{from_contains, to_contains}

@@ -13,13 +13,13 @@ use Rattle.dsd_journal.specs.declared.header.Header.{Header}
 use Rattle.delivery_book.specs.Signing.{Legal}
 use Rattle.dsd_end.specs.Carrying.{Carried}
 use Rattle.dsd_end.specs.Lives.{IsRunOf}
-use Rattle.dsd_end.specs.OwnTurn.{Desk, StaysLegal, Turned, sets_lent}
+use Rattle.own_turn.specs.OwnTurn.{Desk, StaysLegal, Turned, sets_lent}
 use Rattle.dsd_end.specs.PollStep.{Done, bytes_of, gave, joined, nothing, stepped}
 use Rattle.dsd_end.specs.Runs.{bytes_heard}
 use Rattle.dsd_end.specs.SoFar.{CarriesText, MayGoOut, SoFar, with_entries}
 use Rattle.dex_handshake.specs.Sound.{IsSound}
 use Rattle.dsd_end.specs.Standings.{first_standing}
-use Rattle.dsd_end.specs.TurnsGrow.{IsGrown, IsNewAs}
+use Rattle.own_turn.specs.TurnsGrow.{IsGrown, IsNewAs}
 use Rattle.dsd_end.proofs.CarriedTexts.{carries_more, carries_nothing, frame_goes_on, lent_carried}
 use Rattle.dsd_end.proofs.GoingOut.{front_speaks}
 use Rattle.dsd_end.proofs.Onward.{carried_more}
@@ -27,7 +27,7 @@ use Rattle.dsd_end.proofs.PollsRun.{greets, start_sound}
 use Rattle.dsd_end.proofs.RunsGrown.{grown_weaker, run_of, said_grows, with_gone}
 use Rattle.dsd_end.proofs.SoundTurns.{acts_soundly, grows_of, said_one, soundly_on, sound_more}
 use Rattle.dex_handshake.proofs.SoundTable.{hears_soundly, quiets_soundly}
-use Rattle.dsd_end.proofs.TurnsGrowing.{grown_not, grown_on, grown_one}
+use Rattle.own_turn.proofs.TurnsGrowing.{grown_not, grown_on, grown_one}
 
 pub so_far_starts : (chooser : Chooser) (header : Header) (entries : List Entry) → IsHeader header → SoFar header chooser entries [] (nothing (first_standing header entries))
 so_far_starts chooser header entries is = record {

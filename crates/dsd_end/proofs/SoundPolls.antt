@@ -16,13 +16,13 @@ use Rattle.dsd_end.specs.PollStep.{Along, Done, Hears, HearsBroken, HearsUnless,
 use Rattle.dsd_end.specs.Runs.{bytes_heard}
 use Rattle.dsd_end.specs.Standings.{Standing, has_ended, with_begun}
 use Rattle.dsd_end.specs.SoFar.{CarriesText, MayGoOut, SoFar}
-use Rattle.dsd_end.specs.TurnsGrow.{IsGrown}
+use Rattle.own_turn.specs.TurnsGrow.{IsGrown}
 use Rattle.dsd_end.proofs.LinedPolls.{AreBegun, begun_kept, broken_keeps, cut_ends, not_both}
 use Rattle.dsd_end.proofs.Onward.{carried_more}
 use Rattle.dsd_end.proofs.RunsGrown.{grown_weaker, said_grows, said_more}
 use Rattle.dex_line.proofs.Scanned.{ArePieces, parted}
 use Rattle.dex_handshake.proofs.SoundTable.{quiets_soundly}
-use Rattle.dsd_end.proofs.TurnsGrowing.{grown_not, grown_on}
+use Rattle.own_turn.proofs.TurnsGrowing.{grown_not, grown_on}
 use Rattle.dsd_end.proofs.SoundTurns.{Greets, frame_soundly, frames_soundly, grows_of, said_one, soundly_as, soundly_nothing}
 
 -- ---- polls

@@ -12,13 +12,13 @@ use Rattle.dsd_record.specs.Choices.{Chooser}
 use Rattle.dsd_journal.specs.declared.entry.Entry.{Entry}
 use Rattle.dsd_journal.specs.declared.header.Header.{Header}
 use Rattle.dsd_end.specs.Carrying.{Carried}
-use Rattle.dsd_end.specs.DueSets.{DueSet, texts_of}
-use Rattle.dsd_end.specs.OwnTurn.{Desk, IsLoad, Turned, gathered, next_turn}
+use Rattle.own_turn.specs.DueSets.{DueSet, texts_of}
+use Rattle.own_turn.specs.OwnTurn.{Desk, IsLoad, Turned, gathered, next_turn}
 use Rattle.dsd_end.specs.PollStep.{ActsAt, Done, HearsFrame, HearsFrames, gave, joined, nothing, stepped}
 use Rattle.dsd_end.specs.Speaking.{AreSigned}
 use Rattle.dsd_end.specs.Standings.{Standing}
 use Rattle.dsd_end.specs.SoFar.{CarriesText, MayGoOut, SoFar}
-use Rattle.dsd_end.specs.TurnsGrow.{IsGrown}
+use Rattle.own_turn.specs.TurnsGrow.{IsGrown}
 use Rattle.dsd_end.proofs.CarriedTexts.{carries_more, carries_nothing, frame_goes_on, lent_carried}
 use Rattle.dsd_end.proofs.Growing.{Grows}
 use Rattle.dsd_end.proofs.LoadsSaid.{gathered_signed, load_goes_out}
@@ -26,7 +26,7 @@ use Rattle.dsd_end.proofs.Onward.{carried_more}
 use Rattle.dsd_end.proofs.RunsGrown.{grown_weaker, said_grows, said_more}
 use Rattle.dex_line.proofs.Scanned.{ArePieces}
 use Rattle.dex_handshake.proofs.SoundTable.{GoesOn, MaySay, hears_soundly}
-use Rattle.dsd_end.proofs.TurnsGrowing.{grown_not, grown_on, spoken_entries, turn_grows}
+use Rattle.own_turn.proofs.TurnsGrowing.{grown_not, grown_on, spoken_entries, turn_grows}
 
 pub grows_of : (role : Role) (chooser : Chooser) (P : List ℕ → Type 0) (old new : List Entry) → IsGrown role chooser P old new → Grows old new
 grows_of role chooser P old new g = record { added = g.added; grown = g.grown }

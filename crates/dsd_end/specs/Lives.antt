@@ -8,7 +8,7 @@ use Rattle.dsd_journal.specs.declared.entry.EntryKind.TheVariants.{Signed}
 use Rattle.delivery_book.specs.Deeds.{taken_texts}
 use Rattle.delivery_book.specs.Signing.{Legal}
 use Rattle.dsd_end.specs.Carrying.{Carried}
-use Rattle.dsd_end.specs.Choosing.{Chosen}
+use Rattle.own_turn.specs.Choosing.{Chosen}
 use Rattle.dsd_end.specs.Runs.{Run, bytes_heard}
 use Rattle.dsd_end.specs.Speaking.{Speaks}
 

@@ -10,7 +10,7 @@ use Rattle.dex_handshake.specs.LineTable.{Line, LineStep, Ready, Bidding, Awaiti
 use Rattle.dsd_record.specs.Choices.{Chooser}
 use Rattle.dsd_station.specs.declared.call.Reception.{Reception}
 use Rattle.dsd_station.specs.declared.call.Reception.TheVariants.{Piece, Silence, Cut}
-use Rattle.dsd_end.specs.OwnTurn.{Desk, Turned}
+use Rattle.own_turn.specs.OwnTurn.{Desk, Turned}
 use Rattle.dsd_end.specs.Standings.{Standing, has_ended, with_begun, with_line}
 
 -- what an end has done: the standing that it has come to, the frames that it said, and the loads that it gave in its own turns

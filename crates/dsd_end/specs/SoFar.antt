@@ -10,7 +10,7 @@ use Rattle.dsd_journal.specs.declared.header.Header.{Header}
 use Rattle.dsd_end.specs.Carrying.{Carried, OccurInOrder, texts_in}
 use Rattle.dsd_end.specs.PollStep.{Done}
 use Rattle.dsd_end.specs.Speaking.{IsBacked}
-use Rattle.dsd_end.specs.TurnsGrow.{IsGrown}
+use Rattle.own_turn.specs.TurnsGrow.{IsGrown}
 
 -- the text is the join of the texts of blocks that occur in these bytes one behind another
 pub record CarriesText (bytes text : List ℕ) : Type 0 where

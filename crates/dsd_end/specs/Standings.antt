@@ -5,7 +5,7 @@ use Rattle.dsd_values.specs.declared.role.Role.TheVariants.{Supplier, Receiver}
 use Rattle.dex_handshake.specs.LineTable.{Line, Ready, Bidding, Awaiting, SentAll, InText, Finished, Ended, started}
 use Rattle.dsd_journal.specs.declared.entry.Entry.{Entry}
 use Rattle.dsd_journal.specs.declared.header.Header.{Header}
-use Rattle.dsd_end.specs.OwnTurn.{Desk}
+use Rattle.own_turn.specs.OwnTurn.{Desk}
 
 pub record Standing : Type 0 where
   -- the role and the ids

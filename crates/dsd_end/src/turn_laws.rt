@@ -15,13 +15,13 @@ ghost use Rattle.dsd_journal.specs.declared.header.Header.{Header};
 ghost use Rattle.delivery_book.specs.Signing.{Legal};
 ghost use Rattle.dsd_end.specs.Carrying.{Carried};
 ghost use Rattle.dsd_end.specs.Lives.{IsRunOf};
-ghost use Rattle.dsd_end.specs.OwnTurn.{Desk, StaysLegal, Turned, sets_lent};
+ghost use Rattle.own_turn.specs.OwnTurn.{Desk, StaysLegal, Turned, sets_lent};
 ghost use Rattle.dsd_end.specs.PollStep.{Along, Done, Next, bytes_of, gave, joined, nothing, stepped};
 ghost use Rattle.dsd_end.specs.PollsHeard.{heard_in, receptions_of};
 ghost use Rattle.dsd_end.specs.Runs.{bytes_heard};
 ghost use Rattle.dsd_end.specs.SoFar.{MayGoOut, SoFar, with_entries};
 ghost use Rattle.dsd_end.specs.Standings.{Standing, first_standing};
-ghost use Rattle.dsd_end.specs.TurnsGrow.{IsGrown, IsLent, IsNewAs};
+ghost use Rattle.own_turn.specs.TurnsGrow.{IsGrown, IsLent, IsNewAs};
 
 /// Polls join and part: some polls and then others are all of them, one after another.
 pub fn polls_join()

@@ -1,4 +1,4 @@
-use Rattle.dsd_end.specs.TurnsGrow.{IsLent}
+use Rattle.own_turn.specs.TurnsGrow.{IsLent}
 use Rattle.dsd_end.proofs.Polling.{along_goes}
 use Rattle.dsd_end.proofs.turn_laws.entries_grow_along_polls.Goals as goal
 
