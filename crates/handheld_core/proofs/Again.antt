@@ -34,7 +34,7 @@ use Rattle.plain_lines.specs.declared.counted.Counted.{Counted}
 use Rattle.plain_lines.proofs.Keyed.{last_apart, prefix_apart, turned_numbers, turned_texts}
 use Rattle.plain_lines.proofs.Unrefused.{few_below, go_bind, go_passed, go_unless, go_value, placed, signature_again, with_again}
 use Rattle.handheld_core.specs.DraftRows.{IsItem, Rows, SaysAllowance, SaysItem, allowance_in, allowed, beside, form_of, item_in, size_of, unless_standing, with_allowance, with_item}
-use Rattle.handheld_core.specs.DraftTexts.{Entry, Beside, Counter, End, IsSaid, Say, Says, SaysHead, entries_of, head_of, is_known, item_entries, number_of}
+use Rattle.handheld_core.specs.DraftTexts.{Entry, Beside, Counter, End, IsSaid, Say, Says, SaysHead, entries_of, head_of, is_known, item_entries, number_of, AreSaid}
 use Rattle.handheld_core.specs.Reading.{SoFar, begun, draft_of, draft_step, drafts_of, finished, going_on, head_in, in_rows, is_in_line, nothing, one_allowance, one_item, opened, priced, with_counter, with_end, with_row}
 use Rattle.handheld_core.specs.declared.draft.Draft.{Draft}
 use Rattle.handheld_core.specs.declared.reading.OpenDraft.{OpenDraft}
@@ -389,10 +389,13 @@ drafts_left done (draft ∷ drafts) lines apart few each say =
     here.same ∙ drafts_left (done ++ draft ∷ []) drafts here.left apart2 (subst (λ (ds : List Draft). length ds ≤ 200) (sym joined) few) (All-tail IsSaid draft drafts each) here.say
     ∙ ap (λ (ds : List Draft). Ok (let m : SoFar = record { done = ds; part = parts.Between } in m)) joined
 
+-- what lines say is read of them
+pub lines_again : (drafts : List Draft) (lines : List LineSeen) → AreSaid drafts lines → said_by draft_step nothing lines ≡ Ok (record { done = drafts; part = parts.Between })
+lines_again drafts lines are = drafts_left [] drafts lines are.apart are.few are.each are.lines
+
 pub again : (text : List ℕ) (drafts : List Draft) → Says drafts text → drafts_of text ≡ Ok drafts
 again text drafts says =
-    go_bind (said_by draft_step nothing (lines_in text).lines) (finished (lines_in text).end) (record { done = drafts; part = parts.Between })
-    (drafts_left [] drafts (lines_in text).lines says.apart says.few says.each says.lines)
+    go_bind (said_by draft_step nothing (lines_in text).lines) (finished (lines_in text).end) (record { done = drafts; part = parts.Between }) (lines_again drafts (lines_in text).lines says)
 
 -- an answer of which want of memory alone is free
 pub only : (text : List ℕ) (result : Result (List Draft) DraftFault) → UnlessMemory Memory result (drafts_of text) → (drafts : List Draft) → Says drafts text → UnlessMemory Memory result (Ok drafts)

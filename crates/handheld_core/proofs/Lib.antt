@@ -4,6 +4,6 @@ mod Rowed
 mod Countered
 mod Chosen
 mod Made
-mod Said
-mod Again
+pub mod Said
+pub mod Again
 mod Worked

@@ -32,7 +32,7 @@ use Rattle.plain_lines.specs.Refusing.{◌>>=◌, SaysSignature, misplaced, said
 use Rattle.plain_lines.proofs.Keyed.{apart_more, turned_texts}
 use Rattle.plain_lines.proofs.Unrefused.{bind_ok, led, ok_same, one_more, passed, unless_ok, value_ok}
 use Rattle.handheld_core.specs.DraftRows.{AreRows, Rows, SaysAllowance, SaysItem, allowance_in, allowed, beside, form_of, item_in, item_of, size_of, sized, unless_standing, with_allowance, with_item}
-use Rattle.handheld_core.specs.DraftTexts.{Entry, Head, Sign, Tolerance, Beside, Item, Counter, End, IsSaid, Say, Says, SaysEntry, SaysHead, entries_of, is_known, item_entries, number_of}
+use Rattle.handheld_core.specs.DraftTexts.{Entry, Head, Sign, Tolerance, Beside, Item, Counter, End, IsSaid, Say, Says, SaysEntry, SaysHead, entries_of, is_known, item_entries, number_of, AreSaid}
 use Rattle.handheld_core.specs.Reading.{IsBegun, SoFar, draft_of, draft_step, drafts_of, finished, going_on, head_in, in_part, is_in_line, nothing, one_allowance, one_item, priced, with_counter, with_end, with_row}
 use Rattle.handheld_core.specs.declared.draft.Draft.{Draft}
 use Rattle.handheld_core.specs.declared.reading.OpenDraft.{OpenDraft}
@@ -173,6 +173,10 @@ record Told (done : List Draft) (part : Part) (next : SoFar) (line : LineSeen) :
   fine : IsFinePart next.part next.done
 
 -- ---- the lines in front of the rows
+
+-- where no draft is open, the line of one begins
+pub begins_draft : (done : List Draft) (line : LineSeen) (next : SoFar) → in_part parts.Between done line ≡ Ok next → leads line (codes "DRAFT") ≡ true
+begins_draft done line next e = let here = unless_ok (misplaced line (codes "DRAFT") 8) line _ next e in (led line (codes "DRAFT") 8 here.none).leading
 
 begun_told : (done : List Draft) (line : LineSeen) (next : SoFar) → AreDone done → in_part parts.Between done line ≡ Ok next → Told done parts.Between next line
 begun_told done line next are e =
@@ -400,15 +404,18 @@ ended_by (parts.Open draft) done end drafts e = cc (e)
 none_done : AreDone []
 none_done = record { each = All-nil IsSaid; apart = tt; few = omega arith }
 
+-- lines behind which no draft is open say the drafts that are whole
+pub lines_said : (lines : List LineSeen) (next : SoFar) → said_by draft_step nothing lines ≡ Ok next → next.part ≡ parts.Between → AreSaid next.done lines
+lines_said lines next said between =
+    let all = all_told nothing next lines none_done tt said in
+    let entries : flat_map entries_of next.done ≡ all.entries = sym (append-nil (flat_map entries_of next.done)) ∙ sym (ap (λ (part : Part). entries_so_far next.done part) between) ∙ all.more in
+    record { lines = subst (λ (es : List Entry). Say es lines) (sym entries) all.say; each = all.are.each; apart = all.are.apart; few = all.are.few }
+
 pub says : (text : List ℕ) (drafts : List Draft) → drafts_of text ≡ Ok drafts → Says drafts text
 says text drafts e =
     let whole = bind_ok (said_by draft_step nothing (lines_in text).lines) (finished (lines_in text).end) drafts e in
-    let all = all_told nothing whole.value (lines_in text).lines none_done tt whole.is in
     let ended = ended_by whole.value.part whole.value.done (lines_in text).end drafts whole.goes_on in
-    let entries : flat_map entries_of drafts ≡ all.entries =
-    sym (ap (flat_map entries_of) ended.1) ∙ sym (append-nil (flat_map entries_of whole.value.done)) ∙ sym (ap (λ (part : Part). entries_so_far whole.value.done part) ended.0) ∙ all.more in
-    let are : AreDone drafts = subst AreDone ended.1 all.are in
-    record { lines = subst (λ (es : List Entry). Say es (lines_in text).lines) (sym entries) all.say; each = are.each; apart = are.apart; few = are.few }
+    subst (λ (ds : List Draft). AreSaid ds (lines_in text).lines) ended.1 (lines_said (lines_in text).lines whole.value whole.is ended.0)
 
 -- an answer of which want of memory alone is free
 pub found : (text : List ℕ) (result : Result (List Draft) DraftFault) → UnlessMemory Memory result (drafts_of text) → IfOk result (λ drafts. Says drafts text)

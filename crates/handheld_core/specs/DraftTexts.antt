@@ -125,9 +125,13 @@ pub record IsSaid (draft : Draft) : Type 0 where
   pub priced : IsOk (totals_of draft.base.lines draft.base.extras)
   pub counters : AreCounts draft.counters
 
--- The lines of the text say the entries of these drafts, one draft after another.
-pub record Says (drafts : List Draft) (text : List ℕ) : Type 0 where
-  pub lines : Say (flat_map entries_of drafts) (lines_in text).lines
+-- These lines say the entries of these drafts, one draft after another.
+pub record AreSaid (drafts : List Draft) (text : List LineSeen) : Type 0 where
+  pub lines : Say (flat_map entries_of drafts) text
   pub each : All IsSaid drafts
   pub apart : AreApartBy bytes_eq number_of drafts
   pub few : length drafts ≤ MOST_DRAFTS
+
+-- The lines of the text say these drafts.
+abbrev pub Says : List Draft → List ℕ → Type 0
+Says drafts text = AreSaid drafts (lines_in text).lines

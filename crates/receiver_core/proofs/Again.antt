@@ -13,7 +13,7 @@ use Rattle.plain_lines.specs.PlainText.{LineSeen, leads, lines_in, piece_of, wor
 use Rattle.plain_lines.specs.Refusing.{IsLed, SaysSignature, misplaced, said_by, signature_in, value_at}
 use Rattle.plain_lines.specs.declared.counted.Counted.{Counted}
 use Rattle.plain_lines.proofs.Keyed.{last_apart, prefix_apart, turned_numbers, turned_texts}
-use Rattle.receiver_core.specs.CountTexts.{AreCounts, Entry, Item, End, Say, Says, answer_text, entries_of, is_known, number_of}
+use Rattle.receiver_core.specs.CountTexts.{AreCounts, Entry, Item, End, Say, Says, answer_text, entries_of, is_known, number_of, AreSaid}
 use Rattle.receiver_core.specs.Reading.{SoFar, answer_of, begun, count_step, counts_of, finished, nothing, with_end, with_item}
 use Rattle.receiver_core.specs.declared.count.Count.{Count}
 use Rattle.receiver_core.specs.declared.reading.Part.TheVariants as parts
@@ -138,10 +138,13 @@ counts_left done (count ∷ counts) lines are each say =
     here.same ∙ counts_left (done ++ count ∷ []) counts here.left are2 (All-tail (λ (c : Count). AreRight c.lines) count counts each) here.say
     ∙ ap (λ (cs : List Count). Ok (let m : SoFar = record { done = cs; part = parts.Between } in m)) joined
 
+-- what lines say is read of them
+pub lines_again : (counts : List Count) (lines : List LineSeen) → AreSaid counts lines → said_by count_step nothing lines ≡ Ok (record { done = counts; part = parts.Between })
+lines_again counts lines are = counts_left [] counts lines are.counts_right are.counts_right.each are.lines
+
 pub again : (text : List ℕ) (counts : List Count) → Says counts text → counts_of text ≡ Ok counts
 again text counts says =
-    go_bind (said_by count_step nothing (lines_in text).lines) (finished (lines_in text).end) (record { done = counts; part = parts.Between })
-    (counts_left [] counts (lines_in text).lines says.counts_right says.counts_right.each says.lines)
+    go_bind (said_by count_step nothing (lines_in text).lines) (finished (lines_in text).end) (record { done = counts; part = parts.Between }) (lines_again counts (lines_in text).lines says)
 
 -- an answer of which want of memory alone is free
 pub only : (text : List ℕ) (result : Result (List Count) DraftFault) → UnlessMemory Memory result (counts_of text) → (counts : List Count) → Says counts text → UnlessMemory Memory result (Ok counts)

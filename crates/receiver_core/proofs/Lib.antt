@@ -2,6 +2,6 @@ mod Known
 mod Differing
 mod Chosen
 mod Loops
-mod Said
-mod Again
+pub mod Said
+pub mod Again
 mod Worked

@@ -18,7 +18,7 @@ use Rattle.plain_lines.proofs.Unrefused.{bind_ok, led, ok_same, one_more, passed
 use Rattle.plain_lines.specs.PlainText.{LineSeen, leads, lines_in, word_of_line}
 use Rattle.plain_lines.specs.Refusing.{misplaced, said_by, signature_in, value_at}
 use Rattle.plain_lines.specs.declared.counted.Counted.{Counted}
-use Rattle.receiver_core.specs.CountTexts.{AreCounts, Entry, Number, Sign, Counters, Item, End, Say, Says, SaysEntry, answer_text, entries_of, is_known}
+use Rattle.receiver_core.specs.CountTexts.{AreCounts, Entry, Number, Sign, Counters, Item, End, Say, Says, SaysEntry, answer_text, entries_of, is_known, AreSaid}
 use Rattle.receiver_core.specs.Reading.{IsBegun, SoFar, answer_of, count_step, counts_of, finished, in_part, nothing, with_end, with_item}
 use Rattle.receiver_core.proofs.Known.{counts_more}
 use Rattle.receiver_core.specs.declared.count.Count.{Count}
@@ -48,6 +48,10 @@ record Told (done : List Count) (part : Part) (next : SoFar) (line : LineSeen) :
   more : entries_so_far next.done next.part ≡ entries_so_far done part ++ entry ∷ []
   counts : AreCounts next.done
   fine : IsFinePart next.part next.done
+
+-- where no count is open, the line of one begins
+pub begins_count : (done : List Count) (line : LineSeen) (next : SoFar) → in_part parts.Between done line ≡ Ok next → leads line (codes "COUNT") ≡ true
+begins_count done line next e = let here = unless_ok (misplaced line (codes "COUNT") 2) line _ next e in (led line (codes "COUNT") 2 here.none).leading
 
 begun_told : (done : List Count) (line : LineSeen) (next : SoFar) → AreCounts done → in_part parts.Between done line ≡ Ok next → Told done parts.Between next line
 begun_told done line next are e =
@@ -185,14 +189,18 @@ ended_by (parts.Lines count) done end counts e = cc (e)
 no_counts : AreCounts []
 no_counts = record { each = All-nil _; apart = tt; few = omega arith }
 
+-- lines behind which no count is open say the counts that are whole
+pub lines_said : (lines : List LineSeen) (next : SoFar) → said_by count_step nothing lines ≡ Ok next → next.part ≡ parts.Between → AreSaid next.done lines
+lines_said lines next said between =
+    let all = all_told nothing next lines no_counts tt said in
+    let entries : flat_map entries_of next.done ≡ all.entries = sym (append-nil (flat_map entries_of next.done)) ∙ sym (ap (λ (part : Part). entries_so_far next.done part) between) ∙ all.more in
+    record { lines = subst (λ (es : List Entry). Say es lines) (sym entries) all.say; counts_right = all.counts }
+
 pub says : (text : List ℕ) (counts : List Count) → counts_of text ≡ Ok counts → Says counts text
 says text counts e =
     let whole = bind_ok (said_by count_step nothing (lines_in text).lines) (finished (lines_in text).end) counts e in
-    let all = all_told nothing whole.value (lines_in text).lines no_counts tt whole.is in
     let ended = ended_by whole.value.part whole.value.done (lines_in text).end counts whole.goes_on in
-    let entries : flat_map entries_of counts ≡ all.entries =
-    sym (ap (flat_map entries_of) ended.1) ∙ sym (append-nil (flat_map entries_of whole.value.done)) ∙ sym (ap (λ (part : Part). entries_so_far whole.value.done part) ended.0) ∙ all.more in
-    record { lines = subst (λ (es : List Entry). Say es (lines_in text).lines) (sym entries) all.say; counts_right = subst AreCounts ended.1 all.counts }
+    subst (λ (cs : List Count). AreSaid cs (lines_in text).lines) ended.1 (lines_said (lines_in text).lines whole.value whole.is ended.0)
 
 -- an answer of which want of memory alone is free
 pub found : (text : List ℕ) (result : Result (List Count) DraftFault) → UnlessMemory Memory result (counts_of text) → IfOk result (λ counts. Says counts text)

@@ -69,7 +69,11 @@ Say (entry ∷ entries) [] = ⊥
 abbrev pub entries_of : Count → List Entry
 entries_of count = Number count.number ∷ Sign count.signature ∷ Counters count.counters ∷ map Item count.lines ++ End ∷ []
 
--- The lines of the text say the entries of these counts, one count after another.
-pub record Says (counts : List Count) (text : List ℕ) : Type 0 where
-  pub lines : Say (flat_map entries_of counts) (lines_in text).lines
+-- These lines say the entries of these counts, one count after another.
+pub record AreSaid (counts : List Count) (text : List LineSeen) : Type 0 where
+  pub lines : Say (flat_map entries_of counts) text
   pub counts_right : AreCounts counts
+
+-- The lines of the text say these counts.
+abbrev pub Says : List Count → List ℕ → Type 0
+Says counts text = AreSaid counts (lines_in text).lines

@@ -1,0 +1,17 @@
+mod Deeds
+mod EventsRead
+mod ScriptParts
+mod ScriptSaid
+mod ScriptAgain
+mod Worked
+mod Deliveries
+mod Taking
+mod RunFrames
+mod HeardWell
+mod StepsKeep
+mod EventsKeep
+mod WorldCable
+mod Recorded
+mod JoinedRuns
+mod ByStation
+mod CutScripts

@@ -1,0 +1,11 @@
+pub mod EventLines
+pub mod ScriptTexts
+pub mod EventReading
+pub mod Reading
+pub mod Worked
+pub mod Steps
+pub mod Scenes
+pub mod Obeying
+pub mod Living
+pub mod Leaving
+pub mod Delivering
