@@ -4,7 +4,7 @@
 Makes large inputs, runs the program on each, and prints what it took: instructions (counted by
 callgrind), instructions a byte, and peak memory. Then it measures adjustments of 10 to 999 lines with
 the program bench_versions, the sets of a transmission one by one, a session of the line with the
-program bench_line, and entries of a journal with bench_journal. It judges nothing and always ends with status 0. PROGRAM is crates/dex/out/dex where none is given.
+program bench_line, entries of a journal with bench_journal, and the opening of a long one with book_trace. It judges nothing and always ends with status 0. PROGRAM is crates/dex/out/dex where none is given.
 """
 import os
 import re
@@ -37,17 +37,29 @@ def check_of(data):
     return check
 
 
-def sealed(segments):
+def sealed(segments, control):
     """The text of a set: its segments, then G85 with their check, then SE with their number."""
     text = b"".join(segment.encode() + b"\r\n" for segment in segments)
-    trailer = "G85*%04X\r\nSE*%d*0001\r\n" % (check_of(text), len(segments) + 2)
+    trailer = "G85*%04X\r\nSE*%d*%04d\r\n" % (check_of(text), len(segments) + 2, control)
     return text + trailer.encode()
 
 
-def delivery(items, quantity, amount):
-    head = ["ST*894*0001", "G82*D*100001*****20240229", "LS*0100"]
+def check_in(text):
+    """The check that a set has."""
+    return text[text.index(b"G85*") + 4 :][:4].decode()
+
+
+def delivery(items, quantity, amount, number=100_001, control=1):
+    head = ["ST*894*%04d" % control, "G82*D*%d*****20240229" % number, "LS*0100"]
     totals = ["LE*0100", "G84*%d*%d" % (quantity, amount), "G86*JONES"]
-    return sealed(head + items + totals)
+    return sealed(head + items + totals, control)
+
+
+def answer(letter, number, check, lines, totals, mark, control):
+    """An adjustment of level 1, or without lines its acceptance."""
+    rows = ["LS*0100"] + lines + ["LE*0100"] if lines else []
+    head = ["ST*895*%04d" % control, "G87*%s*D*%d*%s*1" % (letter, number, check)]
+    return sealed(head + rows + ["G84*%d*%d" % totals, "G86*%s" % mark], control)
 
 
 def item(number, *more):
@@ -71,6 +83,12 @@ def set_with_allowances():
     return delivery(items, 400 * 12, 400 * (1500 - 3 * 120 + 3 * 150))
 
 
+def set_with_notes():
+    """One line with 8,000 references before it, and 8,000 notes at it and as many behind it."""
+    segments = ["ST*894*0001", "G82*D*100001*****20240229"] + ["N9*PO*7"] * 8_000 + ["LS*0100", "G83*1*12*EA*****1.25"]
+    return sealed(segments + ["G22*A*12"] * 8_000 + ["LE*0100"] + ["G23*B*1"] * 8_000 + ["G84*12*1500", "G86*JONES"], 1)
+
+
 def small_set():
     """The smallest delivery of two lines that is sent often: 172 bytes."""
     items = ["G83*1*12*EA*012345678905****1.25", "G83*2*3*EA*012345678912****.3333"]
@@ -88,14 +106,38 @@ def small_sets():
     return transmission([small_set()] * 1_569)
 
 
-def adjustment(count):
+def adjustment(count, number=100_001, control=1, answer_control=1):
     """A delivery of so many lines, and an answer that adjusts each of them from 12 units to 11."""
-    base = delivery([item(number) for number in range(1, count + 1)], count * 12, count * 1500)
-    check = base[base.index(b"G85*") + 4 :][:4].decode()
-    lines = [item(number).replace("G83*%d*12*" % number, "G89*%d*11*" % number) for number in range(1, count + 1)]
-    head = ["ST*895*0001", "G87*R*D*100001*%s*1" % check, "LS*0100"]
-    answer = sealed(head + lines + ["LE*0100", "G84*%d*%d" % (count * 11, count * 1375), "G86*SMITH"])
-    return base, answer
+    base = delivery([item(line) for line in range(1, count + 1)], count * 12, count * 1500, number, control)
+    lines = [item(line).replace("G83*%d*12*" % line, "G89*%d*11*" % line) for line in range(1, count + 1)]
+    return base, answer("R", number, check_in(base), lines, (count * 11, count * 1375), "SMITH", answer_control)
+
+
+def entry(kind, text):
+    return b"\xa5" + kind + len(text).to_bytes(4, "big") + text
+
+
+def supplier_journal(deliveries, lines):
+    """A supplier's journal of deliveries of so many lines, each signed, adjusted by the store in all its lines, and accepted."""
+    told = b"DEXJ1HHH00000001RR00000001\n"
+    for place in range(1, deliveries + 1):
+        base, adjusted = adjustment(lines, 200_000 + place, 2 * place - 1, place)
+        accepted = answer("S", 200_000 + place, check_in(adjusted), [], (lines * 11, lines * 1375), "JONES", 2 * place)
+        told += entry(b"S", base) + entry(b"T", adjusted) + entry(b"S", accepted)
+    return told + b"\0"
+
+
+def full_journal():
+    """A handheld's journal of 200 deliveries of 50 lines: each signed, then each adjusted in one line by the store, then each accepted."""
+    signed, taken, accepted = [], [], []
+    for number in range(1, 201):
+        lines = ["G83*%d*12*EA*%012d****1.25" % (line, line * 977) for line in range(1, 51)]
+        signed.append(delivery(lines, 600, 75_000, 500_000 + number, number))
+        counted = ["G89*1*11*EA*%012d****1.25" % 977]
+        taken.append(answer("R", 500_000 + number, check_in(signed[-1]), counted, (599, 74_875), "SMITH", number))
+        accepted.append(answer("S", 500_000 + number, check_in(taken[-1]), [], (599, 74_875), "SMITH", 200 + number))
+    told = b"".join(entry(b"S", text) for text in signed) + b"".join(entry(b"T", text) for text in taken)
+    return b"DEXJ1HHH00000001RR00000001\n" + told + b"".join(entry(b"S", text) for text in accepted) + b"\0"
 
 
 def refused_early():
@@ -116,6 +158,7 @@ def captured_line():
 INPUTS = [
     ("set", ["check", "set"], full_set),
     ("allowances", ["check", "set"], set_with_allowances),
+    ("notes", ["check", "set"], set_with_notes),
     ("refused", ["check", "set"], refused_early),
     ("text", ["check", "text"], small_sets),
     ("line", ["check", "line"], captured_line),
@@ -186,6 +229,18 @@ def measure(program, folder):
         each = "-" if count is None else "%.2f" % (count / size)
         last = (output.splitlines() or [b"(nothing)"])[-1].decode("latin-1")
         print("%-11s %9d %13s %7s %9s %7d  %s" % (name, size, told, each, peak or "-", status, last))
+
+
+def measure_show(program, folder):
+    """What a journal takes that is shown."""
+    journal = os.path.join(folder, "journal.dex")
+    with open(journal, "wb") as file:
+        size = file.write(full_journal())
+    status, peak, output = run([program, "show", journal], os.devnull)
+    count = instructions([program, "show", journal], os.devnull, folder)
+    told = "-" if count is None else "%d" % count
+    each = "-" if count is None else "%.2f" % (count / size)
+    print("%-11s %9d %13s %7s %9s %7d  %s" % ("journal", size, told, each, peak or "-", status, (output.splitlines() or [b"(nothing)"])[-1].decode("latin-1")))
 
 
 def counted(command, data, folder):
@@ -260,6 +315,23 @@ def measure_journal(program, folder):
         print("400 entries by %s: %.1f ms, the median of five runs" % (way, 1000 * sorted(took)[2]))
 
 
+def measure_book(program, folder):
+    """What opening a book over a long journal takes."""
+    journal, calls = os.path.join(folder, "journal.dex"), os.path.join(folder, "calls")
+    with open(journal, "wb") as file:
+        size = file.write(supplier_journal(200, 50))
+    with open(calls, "wb") as file:
+        file.write(b"flush\n")
+    print("\na journal of %d bytes, 200 deliveries of 50 lines in 600 entries:" % size)
+    if not os.access(program, os.X_OK):
+        print("no program at", program, "- build it with: cd crates/book_trace && rt run")
+        return
+    command = [program, "S", journal]
+    status, peak, output = run(command, calls)
+    last = (output.splitlines() or [b"(nothing)"])[-1].decode("latin-1")
+    print("opened: %s instructions, %s KiB, status %d, %s" % (instructions(command, calls, folder), peak or "-", status, last))
+
+
 def main():
     program = os.path.abspath(sys.argv[1]) if len(sys.argv) > 1 else os.path.join(HOME, "crates", "dex", "out", "dex")
     if not os.access(program, os.X_OK):
@@ -267,10 +339,12 @@ def main():
         return
     with tempfile.TemporaryDirectory() as folder:
         measure(program, folder)
+        measure_show(program, folder)
         measure_sets(program, folder)
         measure_versions(os.path.join(HOME, "crates", "bench_versions", "out", "bench_versions"), folder)
         measure_line(os.path.join(HOME, "crates", "bench_line", "out", "bench_line"), folder)
         measure_journal(os.path.join(HOME, "crates", "bench_journal", "out", "bench_journal"), folder)
+        measure_book(os.path.join(HOME, "crates", "book_trace", "out", "book_trace"), folder)
 
 
 if __name__ == "__main__":
