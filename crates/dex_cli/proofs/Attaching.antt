@@ -13,7 +13,7 @@ use Rattle.dex_cli.specs.Formatting.{IsAttached, IsFailed, IsMade, IsNotEmpty, I
 use Rattle.dex_cli.specs.declared.format_words.NewJournal.{NewJournal}
 
 -- it went well
-went_well : (r : Result (Unit {0}) Failed) → is_err r ≡ false → r ≡ Ok tt
+pub went_well : (r : Result (Unit {0}) Failed) → is_err r ≡ false → r ≡ Ok tt
 went_well (Ok done) is = refl
 went_well (Err failed) is = (let no_fault : ⊥ = cc in absurd no_fault)
 

@@ -8,3 +8,7 @@ mod Attaching
 pub mod LegalSets
 mod Rereading
 mod Composed
+mod EndsOf
+mod Three
+mod ByInput
+mod ServedEnds

@@ -1,10 +1,12 @@
 -- Words spell at most one job.
-use Rattle.std.proofs.Common.{◌≡◌, ℕ, List, [], get_or, refl, sym, ap, ◌∙◌, arith}
+use Rattle.std.proofs.Common.{◌≡◌, ℕ, List, [], length, get_or, refl, sym, ap, subst, ◌∙◌, arith}
 use Rattle.dsd_values.specs.declared.role.Role.{Role}
 use Rattle.dsd_values.specs.declared.role.Role.TheVariants.{Supplier, Receiver}
 use Rattle.dsd_journal.specs.declared.header.Header.{Header}
 use Rattle.dex_cli.specs.FormatWords.{format_words, role_word}
-use Rattle.dex_cli.specs.Words.{check_words, show_words, Spells}
+use Rattle.dex_cli.specs.EndWords.{SpellsEnd, end_words}
+use Rattle.dex_cli.specs.Words.{AsksCheck, AsksFormat, AsksShow, check_words, show_words, Spells}
+use Rattle.dex_cli.specs.declared.end_words.EndNames.{EndNames}
 use Rattle.dex_cli.specs.declared.format_words.NewJournal.{NewJournal}
 use Rattle.dex_cli.specs.declared.words.Job.{Job}
 use Rattle.dex_cli.specs.declared.words.Job.TheVariants as jobs
@@ -75,6 +77,50 @@ show_is_format journal new e = cc
 pub one_show : (journal other : List ℕ) → show_words journal ≡ show_words other → journal ≡ other
 one_show journal other e = cc
 
+-- the words of an end
+end_is_check : (kind : CheckKind) (role : Role) (names : EndNames) → check_words kind ≡ end_words role names → ⊥
+end_is_check kind role names e = let never : 2 ≡ 3 = sym (two kind) ∙ ap length e in absurd (omega (arith, never))
+  where
+    two : (kind : CheckKind) → length (check_words kind) ≡ 2
+    two checks.Set = refl
+    two checks.Text = refl
+    two checks.Line = refl
+
+end_is_format : (new : NewJournal) (role : Role) (names : EndNames) → format_words new ≡ end_words role names → ⊥
+end_is_format new role names e = let never : 5 ≡ 3 = ap length e in absurd (omega (arith, never))
+
+end_is_show : (journal : List ℕ) (role : Role) (names : EndNames) → show_words journal ≡ end_words role names → ⊥
+end_is_show journal role names e = let never : 2 ≡ 3 = ap length e in absurd (omega (arith, never))
+
+same_names : (journal journal' port port' : List ℕ) → journal ≡ journal' → port ≡ port' → (let n : EndNames = record { journal = journal; port = port } in n) ≡ record { journal = journal'; port = port' }
+same_names journal journal' port port' p q = rw (p, q) refl
+
+one_names : (role other : Role) (names names' : EndNames) → end_words role names ≡ end_words other names' → names ≡ names'
+one_names role other names names' e =
+    let journal : names.journal ≡ names'.journal = cc in
+    let port : names.port ≡ names'.port = cc in
+    same_names names.journal names'.journal names.port names'.port journal port
+
+pub one_end : (role other : Role) (names names' : EndNames) → end_words role names ≡ end_words other names' → role ≡ other
+one_end role other names names' e = let word : role_word role ≡ role_word other = cc in one_role role other word
+
+-- the words of an end are those of no other job
+pub end_only : (role : Role) (names : EndNames) (words : List (List ℕ)) → SpellsEnd role names words → (AsksCheck words → ⊥) × (AsksFormat words → ⊥) × (AsksShow words → ⊥)
+end_only role names words s = (
+  λ (kind, t). end_is_check kind role names (sym t ∙ s.words_are),
+  λ (new, t). end_is_format new role names (sym t.words_are ∙ s.words_are),
+  λ (journal, t). end_is_show journal role names (sym t.words_are ∙ s.words_are),
+)
+
+-- what holds of one end whose words they are holds of the other
+pub same_end : (words : List (List ℕ)) (role role' : Role) (names names' : EndNames) (P : Role → EndNames → Type 0) → SpellsEnd role names words → SpellsEnd role' names' words → P role names → P role' names'
+same_end words role role' names names' P s t p =
+    let e = sym s.words_are ∙ t.words_are in
+    subst (λ (r : Role). P r names') (one_end role role' names names' e) (subst (P role) (one_names role role' names names' e) p)
+
+handheld_is_receiver : (names names' : EndNames) → end_words Supplier names ≡ end_words Receiver names' → ⊥
+handheld_is_receiver names names' e = (let wrong = one_end Supplier Receiver names names' e in cc)
+
 pub one_job : (words : List (List ℕ)) (one other : Job) → Spells one words → Spells other words → one ≡ other
 one_job words (jobs.Check kind) (jobs.Check kind') s t = ap (λ (k : CheckKind). jobs.Check k) (one_kind kind kind' (sym s ∙ t))
 one_job words (jobs.Format new) (jobs.Format new') s t = ap (λ (n : NewJournal). jobs.Format n) (one_new new new' (sym s.words_are ∙ t.words_are))
@@ -85,3 +131,19 @@ one_job words (jobs.Check kind) (jobs.Show journal) s t = absurd (check_is_show 
 one_job words (jobs.Show journal) (jobs.Check kind) s t = absurd (check_is_show kind journal (sym t ∙ s.words_are))
 one_job words (jobs.Format new) (jobs.Show journal) s t = absurd (show_is_format journal new (sym t.words_are ∙ s.words_are))
 one_job words (jobs.Show journal) (jobs.Format new) s t = absurd (show_is_format journal new (sym s.words_are ∙ t.words_are))
+one_job words (jobs.Handheld names) (jobs.Handheld names') s t = ap (λ (n : EndNames). jobs.Handheld n) (one_names Supplier Supplier names names' (sym s.words_are ∙ t.words_are))
+one_job words (jobs.Receiver names) (jobs.Receiver names') s t = ap (λ (n : EndNames). jobs.Receiver n) (one_names Receiver Receiver names names' (sym s.words_are ∙ t.words_are))
+one_job words (jobs.Handheld names) (jobs.Receiver names') s t = absurd (handheld_is_receiver names names' (sym s.words_are ∙ t.words_are))
+one_job words (jobs.Receiver names) (jobs.Handheld names') s t = absurd (handheld_is_receiver names' names (sym t.words_are ∙ s.words_are))
+one_job words (jobs.Check kind) (jobs.Handheld names) s t = absurd (end_is_check kind Supplier names (sym s ∙ t.words_are))
+one_job words (jobs.Handheld names) (jobs.Check kind) s t = absurd (end_is_check kind Supplier names (sym t ∙ s.words_are))
+one_job words (jobs.Format new) (jobs.Handheld names) s t = absurd (end_is_format new Supplier names (sym s.words_are ∙ t.words_are))
+one_job words (jobs.Handheld names) (jobs.Format new) s t = absurd (end_is_format new Supplier names (sym t.words_are ∙ s.words_are))
+one_job words (jobs.Show journal) (jobs.Handheld names) s t = absurd (end_is_show journal Supplier names (sym s.words_are ∙ t.words_are))
+one_job words (jobs.Handheld names) (jobs.Show journal) s t = absurd (end_is_show journal Supplier names (sym t.words_are ∙ s.words_are))
+one_job words (jobs.Check kind) (jobs.Receiver names) s t = absurd (end_is_check kind Receiver names (sym s ∙ t.words_are))
+one_job words (jobs.Receiver names) (jobs.Check kind) s t = absurd (end_is_check kind Receiver names (sym t ∙ s.words_are))
+one_job words (jobs.Format new) (jobs.Receiver names) s t = absurd (end_is_format new Receiver names (sym s.words_are ∙ t.words_are))
+one_job words (jobs.Receiver names) (jobs.Format new) s t = absurd (end_is_format new Receiver names (sym t.words_are ∙ s.words_are))
+one_job words (jobs.Show journal) (jobs.Receiver names) s t = absurd (end_is_show journal Receiver names (sym s.words_are ∙ t.words_are))
+one_job words (jobs.Receiver names) (jobs.Show journal) s t = absurd (end_is_show journal Receiver names (sym t.words_are ∙ s.words_are))

@@ -10,7 +10,8 @@ use Rattle.dex_cli.specs.Summaries.{IsNoSet, SumsUp}
 use Rattle.dex_cli.specs.declared.summary.SetSummary.{SetSummary}
 use Rattle.dex_cli.specs.declared.text_summary.TextEnding.{TextEnding}
 use Rattle.dex_cli.specs.declared.text_summary.TextEnding.TheVariants as endings
-use Rattle.dex_cli.specs.Words.{Spells}
+use Rattle.dsd_values.specs.declared.role.Role.TheVariants.{Supplier, Receiver}
+use Rattle.dex_cli.specs.Words.{AsksEnd, Spells}
 use Rattle.dex_cli.specs.Formatting.{Served, Formats}
 use Rattle.dex_cli.specs.Showing.{Shows, IsNotAJournal}
 use Rattle.dex_cli.specs.Verdicts.{IsInput, ChecksSet, ChecksText, ChecksLine, Read, IsChecked, Does, MayCome, status_at, status_of, status_of_line}
@@ -66,6 +67,7 @@ IsGood input = (set : SetView) × IsSet set input
 none_spelled : (input : List ℕ) (place : ℕ) (reason : Reason) → IsNoSet input place reason → IsBad input
 none_spelled input place (reasons.Set reason) no_set = no_set.none
 none_spelled input place (reasons.Envelope reason) no_set = absurd no_set
+none_spelled input place (reasons.Draft reason) no_set = absurd no_set
 none_spelled input place reasons.Damaged no_set = absurd no_set
 none_spelled input place reasons.Bad no_set = absurd no_set
 
@@ -221,7 +223,7 @@ show_job journal journal' one other (verdicts.Shown shown) _ same p q f g = absu
 show_job journal journal' one other (verdicts.NotAJournal place) _ same p q f g = absurd q
 show_job journal journal' one other _ b same p q f g = absurd p
 
-module _ (words : List (List ℕ)) (left after after' : List ℕ) (faults now now' : ℕ) (one other : Served) (a b : Verdict) (f : a ≢ verdicts.SourceFault) (f' : a ≢ verdicts.StationFault)
+module _ (words : List (List ℕ)) (left after after' : List ℕ) (faults now now' : ℕ) (one other : Served) (a b : Verdict) (no_end : AsksEnd words → ⊥) (f : a ≢ verdicts.SourceFault) (f' : a ≢ verdicts.StationFault)
     (g : b ≢ verdicts.SourceFault) (g' : b ≢ verdicts.StationFault) (same : one.before.journal ≡ other.before.journal) where
   by_jobs : (job job' : Job) → Spells job words → Spells job' words → Does (Unit {0}) job (read left after after' faults now now' one other a b) one a
       → Does (Unit {0}) job' (read' left after after' faults now now' one other a b) other b → status_of a ≡ status_of b
@@ -237,6 +239,14 @@ module _ (words : List (List ℕ)) (left after after' : List ℕ) (faults now no
       let same_kind : kind' ≡ kind = one_kind kind' kind (sym t ∙ s) in
       check_job left after after' faults now now' one other a b kind p
       (subst (λ (k : CheckKind). Does (Unit {0}) (jobs.Check k) (read' left after after' faults now now' one other a b) other b) same_kind q) f g
+  by_jobs (jobs.Handheld names) job' s t p q = absurd (no_end (Supplier, names, s))
+  by_jobs (jobs.Receiver names) job' s t p q = absurd (no_end (Receiver, names, s))
+  by_jobs (jobs.Check kind) (jobs.Handheld names) s t p q = absurd (no_end (Supplier, names, t))
+  by_jobs (jobs.Check kind) (jobs.Receiver names) s t p q = absurd (no_end (Receiver, names, t))
+  by_jobs (jobs.Format new) (jobs.Handheld names) s t p q = absurd (no_end (Supplier, names, t))
+  by_jobs (jobs.Format new) (jobs.Receiver names) s t p q = absurd (no_end (Receiver, names, t))
+  by_jobs (jobs.Show journal) (jobs.Handheld names) s t p q = absurd (no_end (Supplier, names, t))
+  by_jobs (jobs.Show journal) (jobs.Receiver names) s t p q = absurd (no_end (Receiver, names, t))
 
   by_words : MayCome (Unit {0}) words (read left after after' faults now now' one other a b) one a → MayCome (Unit {0}) words (read' left after after' faults now now' one other a b) other b
       → status_of a ≡ status_of b
@@ -245,9 +255,9 @@ module _ (words : List (List ℕ)) (left after after' : List ℕ) (faults now no
   by_words (inr p) (inl q) = absurd (q.none p.job p.spells)
   by_words (inr p) (inr q) = by_jobs p.job q.job p.spells q.spells p.does q.does
 
-pub one_status : (words : List (List ℕ)) (left after after' : List ℕ) (faults now now' : ℕ) (one other : Served) (a b : Verdict) → a ≢ verdicts.SourceFault → a ≢ verdicts.StationFault
+pub one_status : (words : List (List ℕ)) (left after after' : List ℕ) (faults now now' : ℕ) (one other : Served) (a b : Verdict) → (AsksEnd words → ⊥) → a ≢ verdicts.SourceFault → a ≢ verdicts.StationFault
     → b ≢ verdicts.SourceFault → b ≢ verdicts.StationFault → one.before.journal ≡ other.before.journal
     → MayCome (Unit {0}) words (record { left = Some left; after = Some after; faults = faults; faults_after = now }) one a
     → MayCome (Unit {0}) words (record { left = Some left; after = Some after'; faults = faults; faults_after = now' }) other b
     → status_of a ≡ status_of b
-one_status words left after after' faults now now' one other a b f f' g g' same p q = by_words words left after after' faults now now' one other a b f f' g g' same p q
+one_status words left after after' faults now now' one other a b no_end f f' g g' same p q = by_words words left after after' faults now now' one other a b no_end f f' g g' same p q

@@ -103,23 +103,23 @@ stood : (a b : Told) → Passes a b [] a.now ⊎ Stays a b → b.now ≡ a.now
 stood a b (inl passes) = passes.now
 stood a b (inr stays) = stays.now
 
-module _ (journal : List ℕ) (r : Result (Unit {0}) Failed) (a b : Told) (attached : Attaches journal [] r a b) where
+module _ (journal port : List ℕ) (r : Result (Unit {0}) Failed) (a b : Told) (attached : Attaches journal port r a b) where
   made : (calls : List Call) × (b.calls ≡ a.calls ++ calls) × ArePassive calls
-  made = elim attached.calls [ inl e ↦ ([], e ∙ sym (append-nil a.calls), tt) | inr e ↦ (Attach journal [] r ∷ [], e, tt) ]
+  made = elim attached.calls [ inl e ↦ ([], e ∙ sym (append-nil a.calls), tt) | inr e ↦ (Attach journal port r ∷ [], e, tt) ]
 
-  alone_by : b.journal ≡ a.journal → b.heard ≡ a.heard → b.plan ≡ a.plan → LeavesAlone a b
+  pub alone_by : b.journal ≡ a.journal → b.heard ≡ a.heard → b.plan ≡ a.plan → LeavesAlone a b
   alone_by same heard plan = record {
     silent = record { heard = heard; gone = ap (λ (m : Moment). m.gone) (stood a b attached.time); plan = plan; goes = record { more = made.0; calls = made.1 } };
     passive = record { more = made.0; calls = made.1; each = made.2 };
     journal = same;
-    stops = attaches_stops journal [] r a b (λ image out. LeavesAt a.now image out ⊎ ((image ≡ a.journal) × (out ≡ a.now.gone))) attached (λ image out left. inl left);
+    stops = attaches_stops journal port r a b (λ image out. LeavesAt a.now image out ⊎ ((image ≡ a.journal) × (out ≡ a.now.gone))) attached (λ image out left. inl left);
   }
 
 -- one that failed
 pub unattached : (journal : List ℕ) (r : Result (Unit {0}) Failed) (a b : Told) → is_err r ≡ true → Attaches journal [] r a b → LooksAt journal a b
 unattached journal (Ok done) a b failed attached = (let never : ⊥ = cc in absurd never)
 unattached journal (Err fault) a b failed attached = record {
-  alone = alone_by journal (Err fault) a b attached attached.err.journal attached.err.heard attached.err.plan;
+  alone = alone_by journal [] (Err fault) a b attached attached.err.journal attached.err.heard attached.err.plan;
   names = inr (record { journal_name = attached.err.journal_name; port_name = attached.err.port_name });
 }
 
@@ -138,7 +138,7 @@ module _ (journal : List ℕ) (r : Result (Unit {0}) Failed) (a b : Told) (well 
   -- and what looks at the journal behind it
   pub looks_behind : (c : Told) → LeavesAlone b c → KeepsTalk b c → LooksAt journal a c
   looks_behind c alone keeps = record {
-    alone = alone_then a b c (alone_by journal r a b attached same.journal same.heard same.plan) alone;
+    alone = alone_then a b c (alone_by journal [] r a b attached same.journal same.heard same.plan) alone;
     names = inl (record { journal_name = keeps.journal_name ∙ same.journal_name; port_name = keeps.port_name ∙ same.port_name });
   }
 

@@ -1,5 +1,6 @@
 pub mod Names
 pub mod FormatWords
+pub mod EndWords
 pub mod Words
 pub mod Summaries
 pub mod JournalSummaries
@@ -7,4 +8,5 @@ pub mod TextSteps
 pub mod Texts
 pub mod Formatting
 pub mod Showing
+pub mod Ends
 pub mod Verdicts

@@ -4,8 +4,6 @@ use Rattle.std.specs.Fmt.{decimal, signed_decimal}
 use Rattle.dsd_values.specs.Writing.{check_text, day_text}
 use Rattle.dsd_values.specs.declared.fault.ValueFault.{ValueFault}
 use Rattle.dsd_values.specs.declared.fault.ValueFault.TheVariants as faults
-use Rattle.dsd_values.specs.declared.flag.Flag.{Flag}
-use Rattle.dsd_values.specs.declared.flag.Flag.TheVariants as flags
 use Rattle.dsd_values.specs.declared.role.Role.{Role}
 use Rattle.dsd_values.specs.declared.role.Role.TheVariants.{Supplier, Receiver}
 use Rattle.dsd_journal.specs.declared.entry.EntryKind.{EntryKind}
@@ -19,6 +17,10 @@ use Rattle.segments.specs.declared.set_fault.SetReason.{SetReason}
 use Rattle.segments.specs.declared.set_fault.SetReason.TheVariants as set_reasons
 use Rattle.dxs_envelope.specs.declared.fault.EnvelopeReason.{EnvelopeReason}
 use Rattle.dxs_envelope.specs.declared.fault.EnvelopeReason.TheVariants as envelope_reasons
+use Rattle.dsd_record.specs.declared.draft_fault.DraftReason.{DraftReason}
+use Rattle.dsd_record.specs.declared.draft_fault.DraftReason.TheVariants as draft_reasons
+use Rattle.end_report.specs.Lines.{both, line}
+use Rattle.end_report.specs.Reports.{flag_text}
 use Rattle.dex_cli.specs.declared.entry_summary.EntryForm.{EntryForm}
 use Rattle.dex_cli.specs.declared.entry_summary.EntryForm.TheVariants as entry_forms
 use Rattle.dex_cli.specs.declared.entry_summary.EntrySummary.{EntrySummary}
@@ -33,18 +35,6 @@ use Rattle.dex_cli.specs.declared.text_summary.TextEnding.{TextEnding}
 use Rattle.dex_cli.specs.declared.text_summary.TextEnding.TheVariants as endings
 use Rattle.dex_cli.specs.declared.verdict.Verdict.{Verdict}
 use Rattle.dex_cli.specs.declared.verdict.Verdict.TheVariants as verdicts
-
--- a line ends with LF
-abbrev pub line : List ℕ → List ℕ
-line text = text ++ 10 ∷ []
-
--- two texts with a space between them
-abbrev pub both : List ℕ → List ℕ → List ℕ
-both first second = first ++ (32 ∷ []) ++ second
-
-abbrev pub flag_text : Flag → List ℕ
-flag_text flags.Debit = codes "D"
-flag_text flags.Credit = codes "C"
 
 -- ---- the lines of a set
 
@@ -113,9 +103,19 @@ envelope_reason_text envelope_reasons.Function = codes "FUNCTION"
 envelope_reason_text (envelope_reasons.Segment fault) = segment_fault_text fault
 envelope_reason_text envelope_reasons.Tail = codes "TAIL"
 
+-- of a value the number of its word is told, and not what is wrong with it
+abbrev pub draft_reason_text : DraftReason → List ℕ
+draft_reason_text draft_reasons.Line = codes "LINE"
+draft_reason_text draft_reasons.Words = codes "WORDS"
+draft_reason_text (draft_reasons.Value word fault) = both (codes "VALUE") (decimal word)
+draft_reason_text draft_reasons.Twice = codes "TWICE"
+draft_reason_text draft_reasons.Limit = codes "LIMIT"
+draft_reason_text draft_reasons.Price = codes "PRICE"
+
 abbrev pub reason_text : Reason → List ℕ
 reason_text (reasons.Set reason) = set_reason_text reason
 reason_text (reasons.Envelope reason) = envelope_reason_text reason
+reason_text (reasons.Draft reason) = draft_reason_text reason
 reason_text reasons.Damaged = codes "DAMAGED"
 reason_text reasons.Bad = codes "BAD"
 
@@ -218,3 +218,5 @@ printed verdicts.Formatted = line (codes "FORMATTED")
 printed (verdicts.NotEmpty size) = line (both (codes "NOT EMPTY") (decimal size))
 printed (verdicts.Shown journal) = journal_text journal
 printed (verdicts.NotAJournal place) = line (both (codes "NOT A JOURNAL") (decimal place))
+printed (verdicts.Ran report) = report.text.items
+printed (verdicts.Full length) = line (both (codes "FULL") (decimal length))

@@ -6,16 +6,27 @@ use Rattle.dsd_station.specs.Causes.{Rose, TakesUpTo}
 use Rattle.dex_line.specs.Captured.{frames_in, is_refused}
 use Rattle.segments.specs.declared.set_fault.SetReason.TheVariants as set_reasons
 use Rattle.dxs_envelope.specs.FirstFault.{told_of}
+use Rattle.dsd_values.specs.declared.role.Role.{Role}
+use Rattle.dsd_values.specs.declared.role.Role.TheVariants.{Supplier, Receiver}
+use Rattle.dsd_record.specs.Choices.{Chooser}
+use Rattle.dsd_record.specs.declared.draft_fault.DraftReason.{DraftReason}
+use Rattle.dex_handshake.specs.declared.session_end.SessionEnd.{SessionEnd}
+use Rattle.dex_handshake.specs.declared.session_end.SessionEnd.TheVariants as sessions
+use Rattle.end_report.specs.declared.ending.Ending.{Ending}
+use Rattle.end_report.specs.declared.ending.Ending.TheVariants as session_endings
+use Rattle.dsd_station.specs.Told.{Told}
+use Rattle.dex_cli.specs.Ends.{Ends, HasRun, SaysChoices, SaysNoChoices}
 use Rattle.dex_cli.specs.Summaries.{IsNoSet, IsSummary, IsSummedUp}
 use Rattle.dex_cli.specs.Words.{Spells, IsOfNoJob}
 use Rattle.dex_cli.specs.Formatting.{Served, Formats}
 use Rattle.dex_cli.specs.Showing.{Shows}
 use Rattle.dex_cli.specs.declared.job.TheConstants.{INPUT_BYTES}
+use Rattle.dex_cli.specs.declared.end_words.EndNames.{EndNames}
 use Rattle.dex_cli.specs.declared.refusal.Refusal.{Refusal}
 use Rattle.dex_cli.specs.declared.refusal.Reason.TheVariants as reasons
 use Rattle.dex_cli.specs.declared.text_summary.TextEnding.{TextEnding}
 use Rattle.dex_cli.specs.declared.text_summary.TextEnding.TheVariants as endings
-use Rattle.dex_cli.specs.declared.status.TheConstants.{DONE, WORDS_REFUSED, INPUT_REFUSED, SOURCE_FAILED, STATION_FAILED, JOURNAL_REFUSED}
+use Rattle.dex_cli.specs.declared.status.TheConstants.{DONE, OPEN, WORDS_REFUSED, INPUT_REFUSED, SOURCE_FAILED, STATION_FAILED, JOURNAL_REFUSED, SESSION_LOST, TOO_MUCH_HEARD, PARTNER_REFUSED, JOURNAL_FULL}
 use Rattle.dex_cli.specs.declared.words.Job.{Job}
 use Rattle.dex_cli.specs.declared.words.Job.TheVariants as jobs
 use Rattle.dex_cli.specs.declared.words.CheckKind.{CheckKind}
@@ -82,11 +93,51 @@ pub record IsChecked (kind : CheckKind) (read : Read) (verdict : Verdict) : Type
   pub read_is : IsInput read.left read.after input
   pub checks : Checks kind input verdict
 
+-- The choices that an input says are refused.
+abbrev pub IsNoChoice : Role → List ℕ → Refusal → Type 0
+IsNoChoice role input refusal = (length input ≤ INPUT_BYTES) × ((reason : DraftReason) × (refusal.reason ≡ reasons.Draft reason) × SaysNoChoices role input refusal.place reason)
+
+-- The input is refused, and the station was not used.
+pub record IsRefusedInput (role : Role) (input : List ℕ) (served : Served) (verdict : Verdict) : Type 0 where
+  pub refusal : Refusal
+  pub verdict_is : verdict ≡ verdicts.Refused refusal
+  pub refused : IsTooLong input refusal ⊎ IsNoChoice role input refusal
+  pub unused : served.after ≡ served.before
+
+-- The input says these choices, with which the end comes to this.
+pub record IsServed (tells : Type 0) (role : Role) (names : EndNames) (input : List ℕ) (served : Served) (verdict : Verdict) : Type 0 where
+  pub short : length input ≤ INPUT_BYTES
+  pub chooser : Chooser
+  pub says : SaysChoices role input chooser
+  pub ends : Ends tells role chooser names served verdict
+
+-- What the job of an end comes to by an input.
+abbrev pub ServesInput : Type 0 → Role → EndNames → List ℕ → Served → Verdict → Type 0
+ServesInput tells role names input served verdict = IsRefusedInput role input served verdict ⊎ IsServed tells role names input served verdict
+
+-- The source failed, and the station was not used; or the input was read, and this is what the job of the end comes to by it.
+abbrev pub ServesEnd : Type 0 → Role → EndNames → Read → Served → Verdict → Type 0
+ServesEnd tells role names read served verdict = (IsUnread read verdict × (served.after ≡ served.before))
+    ⊎ ((input : List ℕ) × IsInput read.left read.after input × ServesInput tells role names input served verdict)
+
+-- The end ran by this input, whatever the job came to.
+pub record RunsBy (role : Role) (names : EndNames) (input : List ℕ) (before after : Told) : Type 0 where
+  pub short : length input ≤ INPUT_BYTES
+  pub chooser : Chooser
+  pub says : SaysChoices role input chooser
+  pub run : HasRun role chooser names before after
+
+-- The input was read, and the end ran by it.
+abbrev pub HasServed : Role → EndNames → Read → Told → Told → Type 0
+HasServed role names read before after = (input : List ℕ) × IsInput read.left read.after input × RunsBy role names input before after
+
 -- What a job comes to, by what was read and what its station told. A check leaves the station alone, and a `format` and a `show` the source.
 abbrev pub Does : Type 0 → Job → Read → Served → Verdict → Type 0
 Does tells (jobs.Check kind) read served verdict = IsUnread read verdict ⊎ IsChecked kind read verdict
 Does tells (jobs.Format new) read served verdict = (read.after ≡ read.left) × Formats tells new served verdict
 Does tells (jobs.Show journal) read served verdict = (read.after ≡ read.left) × Shows tells journal served verdict
+Does tells (jobs.Handheld names) read served verdict = ServesEnd tells Supplier names read served verdict
+Does tells (jobs.Receiver names) read served verdict = ServesEnd tells Receiver names read served verdict
 
 -- The words are those of no job.
 pub record IsNoJob (words : List (List ℕ)) (read : Read) (verdict : Verdict) : Type 0 where
@@ -123,6 +174,20 @@ abbrev pub status_at : TextEnding → ℕ
 status_at endings.Whole = DONE
 status_at (endings.Refused refusal) = INPUT_REFUSED
 
+-- a session that is complete is done where all is final
+abbrev pub status_of_session : SessionEnd → Bool → ℕ
+status_of_session sessions.Complete settled = if settled then DONE else OPEN
+status_of_session sessions.Silent settled = SESSION_LOST
+status_of_session (sessions.TriesSpent block) settled = SESSION_LOST
+status_of_session (sessions.PartnerRefused code) settled = PARTNER_REFUSED
+status_of_session (sessions.WrongPartner id) settled = PARTNER_REFUSED
+status_of_session sessions.TextLimit settled = TOO_MUCH_HEARD
+status_of_session sessions.Unplugged settled = SESSION_LOST
+
+abbrev pub status_of_end : Ending → Bool → ℕ
+status_of_end (session_endings.Session end) settled = status_of_session end settled
+status_of_end session_endings.Noise settled = TOO_MUCH_HEARD
+
 abbrev pub status_of : Verdict → ℕ
 status_of verdicts.Words = WORDS_REFUSED
 status_of verdicts.SourceFault = SOURCE_FAILED
@@ -135,3 +200,5 @@ status_of verdicts.Formatted = DONE
 status_of (verdicts.NotEmpty size) = JOURNAL_REFUSED
 status_of (verdicts.Shown journal) = DONE
 status_of (verdicts.NotAJournal place) = JOURNAL_REFUSED
+status_of (verdicts.Ran report) = status_of_end report.ending report.settled
+status_of (verdicts.Full length) = JOURNAL_FULL

@@ -1,7 +1,11 @@
 -- The words that spell a job.
 use Rattle.std.specs.Prelude.{ℕ, ◌≡◌, ◌⊎◌, List, [], ◌∷◌, codes}
 use Rattle.dex_cli.specs.FormatWords.{SpellsFormat}
+use Rattle.dsd_values.specs.declared.role.Role.{Role}
+use Rattle.dsd_values.specs.declared.role.Role.TheVariants.{Supplier, Receiver}
+use Rattle.dex_cli.specs.EndWords.{SpellsEnd}
 use Rattle.dex_cli.specs.Names.{IsName}
+use Rattle.dex_cli.specs.declared.end_words.EndNames.{EndNames}
 use Rattle.dex_cli.specs.declared.format_words.NewJournal.{NewJournal}
 use Rattle.dex_cli.specs.declared.words.Job.{Job}
 use Rattle.dex_cli.specs.declared.words.Job.TheVariants as jobs
@@ -27,6 +31,8 @@ abbrev pub Spells : Job → List (List ℕ) → Type 0
 Spells (jobs.Check kind) words = words ≡ check_words kind
 Spells (jobs.Format new) words = SpellsFormat new words
 Spells (jobs.Show journal) words = SpellsShow journal words
+Spells (jobs.Handheld names) words = SpellsEnd Supplier names words
+Spells (jobs.Receiver names) words = SpellsEnd Receiver names words
 
 -- the words are those of no job
 abbrev pub IsOfNoJob : List (List ℕ) → Type 0
@@ -44,6 +50,14 @@ AsksFormat words = (new : NewJournal) × Spells (jobs.Format new) words
 abbrev pub AsksShow : List (List ℕ) → Type 0
 AsksShow words = (journal : List ℕ) × Spells (jobs.Show journal) words
 
+-- the words are those of the job of an end
+abbrev pub AsksEnd : List (List ℕ) → Type 0
+AsksEnd words = (role : Role) × (names : EndNames) × SpellsEnd role names words
+
 -- the words are those of a job on a journal
 abbrev pub AsksJournal : List (List ℕ) → Type 0
-AsksJournal words = AsksFormat words ⊎ AsksShow words
+AsksJournal words = AsksFormat words ⊎ (AsksShow words ⊎ AsksEnd words)
+
+-- the words are those of a job that reads the source
+abbrev pub AsksSource : List (List ℕ) → Type 0
+AsksSource words = AsksCheck words ⊎ AsksEnd words

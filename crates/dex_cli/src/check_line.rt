@@ -4,12 +4,13 @@ ghost use Rattle.std.specs.Prelude.{◌≡◌, ◌++◌, map, codes, not, IfOk, 
 ghost use Rattle.dex_line.specs.Captured.{frames_in, is_refused};
 ghost use Rattle.dex_line.specs.FrameShapes.{captured_seen};
 ghost use Rattle.dex_cli.specs.Verdicts.{has_refused, status_of_line};
-ghost use Rattle.dex_cli.specs.Texts.{both, line, shown, frame_line, frames_text, refused_line};
+ghost use Rattle.dex_cli.specs.Texts.{shown, frame_line, frames_text, refused_line};
+ghost use Rattle.end_report.specs.Lines.{both, line};
 
-use crate::lines::{put, put_count};
 use crate::refusal::{Reason, Refusal, put_refusal};
 use crate::status::{DONE, INPUT_REFUSED};
 use dex_line::{Captured, Frames};
+use end_report::{put, put_count};
 use std::alloc::{AllocError, Global};
 
 /// Prints the frames of captured bytes, and answers the status.

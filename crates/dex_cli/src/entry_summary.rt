@@ -3,14 +3,15 @@
 ghost use Rattle.std.specs.Prelude.{◌≡◌, ◌++◌, OnOk};
 ghost use Rattle.dsd_record.specs.declared.set_view.SetView.TheVariants as sets;
 ghost use Rattle.dex_cli.specs.JournalSummaries.{told_of};
-ghost use Rattle.dex_cli.specs.Texts.{both, deed_text, entry_line, kind_text, set_name_text, standing_text, words_text};
+ghost use Rattle.dex_cli.specs.Texts.{deed_text, entry_line, kind_text, set_name_text, standing_text, words_text};
+ghost use Rattle.end_report.specs.Lines.{both};
 
-use crate::lines::{put, put_bytes, put_named, put_number, put_pair};
 use adjustment_895::Answer895;
 use base_record_894::Base;
 use dsd_journal::EntryKind;
 use dsd_record::SetView;
 use dsd_values::{Check, DeliveryNumber, Level, Word, write_check};
+use end_report::{put, put_bytes, put_named, put_number, put_pair};
 use segments::Seal;
 use std::alloc::{AllocError, Global};
 

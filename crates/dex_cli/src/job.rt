@@ -4,8 +4,12 @@ ghost use Rattle.std.specs.Prelude.{◌≡◌, ◌≢◌, ◌⊎◌, ◌+◌, �
 ghost use Rattle.std.specs.Io.KnownBytes.{Appends, Keeps};
 ghost use Rattle.dsd_station.specs.Causes.{Rose, TakesUpTo, WritesFront};
 ghost use Rattle.dex_cli.specs.Texts.{printed};
-ghost use Rattle.dex_cli.specs.Verdicts.{read_of, Checks, IsUnread, IsChecked, IsComposed, MayCome, status_of};
-ghost use Rattle.dex_cli.specs.Words.{AsksCheck, AsksJournal, AsksShow, IsOfNoJob, Spells};
+ghost use Rattle.dsd_values.specs.declared.role.Role.{Role as RoleValue};
+ghost use Rattle.dex_cli.specs.EndWords.{SpellsEnd};
+ghost use Rattle.dex_cli.specs.Ends.{IsIdle};
+ghost use Rattle.dex_cli.specs.declared.end_words.EndNames.{EndNames as NamesValue};
+ghost use Rattle.dex_cli.specs.Verdicts.{read_of, Checks, HasServed, IsUnread, IsChecked, IsComposed, MayCome, status_of};
+ghost use Rattle.dex_cli.specs.Words.{AsksEnd, AsksJournal, AsksShow, AsksSource, IsOfNoJob, Spells};
 ghost use Rattle.dex_cli.specs.Formatting.{served_of};
 ghost use Rattle.dex_cli.specs.Showing.{LooksAt};
 ghost use Rattle.dex_cli.specs.declared.verdict.Verdict.{Verdict as VerdictValue};
@@ -18,11 +22,13 @@ use crate::fault::WordsFault;
 use crate::formatting::make_journal;
 use crate::refusal::{Reason, Refusal};
 use crate::report::report_of;
+use crate::serving::serve_end;
 use crate::showing::show_journal;
 use crate::status::{NO_MEMORY, SINK_FAILED};
 use crate::verdict::Verdict;
 use crate::words::{CheckKind, Job, read_words};
 use dsd_station::{ReadFault, Sink, Source, Station, read_up_to, write_all};
+use dsd_values::Role;
 use segments::SetReason;
 use std::alloc::{AllocError, Global};
 
@@ -49,19 +55,24 @@ pub fn dex<S: Source, K: Sink, T: Station>(
         × WritesFront (K.written sink.old) (K.written sink.new) (printed verdict)) }
 
     // Memory was wanting before anything was written. Of the source no more was taken than the limit and one byte, and the
-    // station was not used, or its journal is not empty, or a `show` looked at it.
+    // station was not used, or its journal is not empty, or a `show` looked at it, or an end used it.
     ensures memory { result ≡ NO_MEMORY → Keeps (K.written sink.old) (K.written sink.new) × TakesUpTo (INPUT_BYTES + 1) (S.left source.old) (S.left source.new)
-        × ((station.new ≡ station.old) ⊎ (AsksShow (map string_bytes words.now) ⊎ ((size : ℕ) × MayCome T.tells (map string_bytes words.now) (read_of S.left S.faults source.old source.new) (served_of T.told T.faults station.old station.new) (verdicts.NotEmpty size)))) }
+        × ((station.new ≡ station.old) ⊎ (AsksShow (map string_bytes words.now) ⊎ AsksEnd (map string_bytes words.now) ⊎ ((size : ℕ) × MayCome T.tells (map string_bytes words.now) (read_of S.left S.faults source.old source.new) (served_of T.told T.faults station.old station.new) (verdicts.NotEmpty size)))) }
 
     // Words of no job take no memory.
     ensures words { IsOfNoJob (map string_bytes words.now) → result ≢ NO_MEMORY }
 
-    // A check alone reads the source, and a job on a journal alone uses the station.
-    ensures unread { (AsksCheck (map string_bytes words.now) → ⊥) → source.new ≡ source.old }
+    // A check and the job of an end alone read the source, and a job on a journal alone uses the station.
+    ensures unread { (AsksSource (map string_bytes words.now) → ⊥) → source.new ≡ source.old }
     ensures idle { (AsksJournal (map string_bytes words.now) → ⊥) → station.new ≡ station.old }
 
     // Whatever a `show` answers, it writes nothing: the journal is as it was.
     ensures looked { T.tells → (journal : List ℕ) → Spells (jobs.Show journal) (map string_bytes words.now) → LooksAt journal (T.told station.old) (T.told station.new) }
+
+    // Whatever the job of an end answers: nothing was written or spoken, or each stop since its opening leaves a run of the choices that
+    // the whole input says.
+    ensures served { T.tells → (role : RoleValue) (names : NamesValue) → SpellsEnd role names (map string_bytes words.now)
+        → IsIdle names (T.told station.old) (T.told station.new) ⊎ HasServed role names (read_of S.left S.faults source.old source.new) (T.told station.old) (T.told station.new) }
 
     ensures source_count { S.faults source.old ≤ S.faults source.new }
     ensures sink_count { K.faults sink.old ≤ K.faults sink.new }
@@ -81,12 +92,14 @@ fn verdict_of<S: Source, T: Station>(
     station: &mut T,
 ) -> Result<Verdict, AllocError>
     ensures may { IfOk result (MayCome T.tells (map string_bytes words.now) (read_of S.left S.faults source.old source.new) (served_of T.told T.faults station.old station.new)) }
-    ensures memory { OnErr result ((station.new ≡ station.old) ⊎ AsksShow (map string_bytes words.now)) }
+    ensures memory { OnErr result ((station.new ≡ station.old) ⊎ AsksShow (map string_bytes words.now) ⊎ AsksEnd (map string_bytes words.now)) }
     ensures taken { OnErr result (TakesUpTo (INPUT_BYTES + 1) (S.left source.old) (S.left source.new)) }
     ensures words { IsOfNoJob (map string_bytes words.now) → IsOk result }
-    ensures unread { (AsksCheck (map string_bytes words.now) → ⊥) → source.new ≡ source.old }
+    ensures unread { (AsksSource (map string_bytes words.now) → ⊥) → source.new ≡ source.old }
     ensures idle { (AsksJournal (map string_bytes words.now) → ⊥) → station.new ≡ station.old }
     ensures looked { T.tells → (journal : List ℕ) → Spells (jobs.Show journal) (map string_bytes words.now) → LooksAt journal (T.told station.old) (T.told station.new) }
+    ensures served { T.tells → (role : RoleValue) (names : NamesValue) → SpellsEnd role names (map string_bytes words.now)
+        → IsIdle names (T.told station.old) (T.told station.new) ⊎ HasServed role names (read_of S.left S.faults source.old source.new) (T.told station.old) (T.told station.new) }
     ensures later { S.faults source.old ≤ S.faults source.new }
     ensures station_count { T.faults station.old ≤ T.faults station.new }
 {
@@ -94,6 +107,8 @@ fn verdict_of<S: Source, T: Station>(
         Ok(Job::Check(kind)) => check(alloc, kind, source),
         Ok(Job::Format(new)) => Ok(make_journal(&new, station)),
         Ok(Job::Show(journal)) => show_journal(alloc, &journal, station),
+        Ok(Job::Handheld(names)) => serve_end(alloc, Role::Supplier, &names, source, station),
+        Ok(Job::Receiver(names)) => serve_end(alloc, Role::Receiver, &names, source, station),
         Err(WordsFault::Refused) => Ok(Verdict::Words),
         Err(WordsFault::Memory) => Err(AllocError),
     }

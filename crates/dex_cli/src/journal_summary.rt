@@ -8,10 +8,10 @@ ghost use Rattle.dex_cli.specs.JournalSummaries.{IsToldOf, entry_told};
 ghost use Rattle.dex_cli.specs.Texts.{entries_text, header_line, journal_text, title_text};
 
 use crate::entry_summary::{EntrySummary, put_entry, summary_with};
-use crate::lines::{put, put_bytes, put_count};
 use dsd_journal::{Header, Journal};
 use dsd_record::set_of;
 use dsd_values::Role;
+use end_report::{put, put_bytes, put_count};
 use segments::SetFault;
 use std::alloc::{AllocError, Global};
 

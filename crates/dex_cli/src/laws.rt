@@ -3,7 +3,7 @@
 ghost use Rattle.std.specs.Prelude.{◌≡◌, ◌≢◌, ℕ, List, Some};
 ghost use Rattle.dex_cli.specs.Verdicts.{Read, MayCome, status_of};
 ghost use Rattle.dex_cli.specs.Formatting.{Served};
-ghost use Rattle.dex_cli.specs.Words.{Spells};
+ghost use Rattle.dex_cli.specs.Words.{AsksEnd, Spells};
 ghost use Rattle.dex_cli.specs.declared.verdict.Verdict.{Verdict};
 ghost use Rattle.dex_cli.specs.declared.verdict.Verdict.TheVariants.{SourceFault, StationFault};
 ghost use Rattle.dex_cli.specs.declared.words.Job.{Job};
@@ -14,10 +14,10 @@ pub fn one_job()
 {}
 
 /// For a source and a station that tell their bytes, the words and these bytes leave one status, faults of the source and
-/// of the station aside.
+/// of the station aside. That of an end goes by what it heard, too.
 pub fn one_status()
     ensures { (words : List (List ℕ)) (left after after' : List ℕ) (faults now now' : ℕ) (one other : Served) (a b : Verdict)
-        → a ≢ SourceFault → a ≢ StationFault → b ≢ SourceFault → b ≢ StationFault → one.before.journal ≡ other.before.journal
+        → (AsksEnd words → ⊥) → a ≢ SourceFault → a ≢ StationFault → b ≢ SourceFault → b ≢ StationFault → one.before.journal ≡ other.before.journal
         → MayCome (Unit {0}) words (record { left = Some left; after = Some after; faults = faults; faults_after = now }) one a
         → MayCome (Unit {0}) words (record { left = Some left; after = Some after'; faults = faults; faults_after = now' }) other b
         → status_of a ≡ status_of b }

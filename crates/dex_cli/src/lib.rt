@@ -4,6 +4,8 @@
 mod check_line;
 mod check_set;
 mod check_text;
+mod end_job;
+mod end_words;
 mod entry_summary;
 mod fault;
 mod format_words;
@@ -11,11 +13,11 @@ mod formatting;
 mod job;
 mod journal_summary;
 pub mod laws;
-mod lines;
 mod name;
 mod reasons;
 mod refusal;
 mod report;
+mod serving;
 mod show_words;
 mod showing;
 mod status;
@@ -24,6 +26,8 @@ mod text_summary;
 mod verdict;
 mod words;
 
+pub use end_job::EndReport;
+pub use end_words::EndNames;
 pub use entry_summary::{EntryForm, EntrySummary};
 pub use fault::WordsFault;
 pub use format_words::NewJournal;
@@ -32,8 +36,8 @@ pub use journal_summary::JournalSummary;
 pub use name::Name;
 pub use refusal::{Reason, Refusal};
 pub use status::{
-    DONE, INPUT_REFUSED, JOURNAL_REFUSED, NO_MEMORY, SINK_FAILED, SOURCE_FAILED, STATION_FAILED,
-    WORDS_REFUSED,
+    DONE, INPUT_REFUSED, JOURNAL_FULL, JOURNAL_REFUSED, NO_MEMORY, OPEN, PARTNER_REFUSED,
+    SESSION_LOST, SINK_FAILED, SOURCE_FAILED, STATION_FAILED, TOO_MUCH_HEARD, WORDS_REFUSED,
 };
 pub use summary::{SetForm, SetSummary};
 pub use text_summary::{TextEnding, TextSummary};

@@ -47,7 +47,8 @@ pub fn read_name(alloc: Global, word: &str) -> Result<Name, WordsFault>
     Ok(Name { text })
 }
 
-fn is_name(word: &str) -> bool
+/// Whether a word is a name.
+pub fn is_name(word: &str) -> bool
     ensures { IsTrue result ↔ IsName word.now }
 {
     match word.as_bytes() {

@@ -2,10 +2,12 @@
 
 ghost use Rattle.std.specs.Prelude.{◌≡◌, ◌++◌, codes, OnOk};
 ghost use Rattle.std.specs.Fmt.{decimal};
-ghost use Rattle.dex_cli.specs.Texts.{both, fault_text, segment_fault_text, set_reason_text};
+ghost use Rattle.dex_cli.specs.Texts.{draft_reason_text, fault_text, segment_fault_text, set_reason_text};
+ghost use Rattle.end_report.specs.Lines.{both};
 
-use crate::lines::{put, put_bytes, put_named, put_number, put_signed};
+use dsd_record::DraftReason;
 use dsd_values::{ValueFault, write_check};
+use end_report::{put, put_bytes, put_named, put_number, put_signed};
 use segments::{SegmentFault, SetReason};
 use std::alloc::{AllocError, Global};
 
@@ -75,5 +77,23 @@ pub fn put_set_reason(
         }
         SetReason::Count { said, found } => put_counts(alloc, out, *said, *found),
         SetReason::Control => put(out, "CONTROL"),
+    }
+}
+
+/// Prints a reason against drafts or counts.
+pub fn put_draft_reason(
+    alloc: Global,
+    out: &mut Vec<u8>,
+    reason: DraftReason,
+) -> Result<(), AllocError>
+    ensures { OnOk result (out.new.items ≡ out.old.items ++ draft_reason_text reason) }
+{
+    match reason {
+        DraftReason::Line => put(out, "LINE"),
+        DraftReason::Words => put(out, "WORDS"),
+        DraftReason::Value { word, fault: _ } => put_named(alloc, out, "VALUE", word as u64),
+        DraftReason::Twice => put(out, "TWICE"),
+        DraftReason::Limit => put(out, "LIMIT"),
+        DraftReason::Price => put(out, "PRICE"),
     }
 }

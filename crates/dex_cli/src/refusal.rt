@@ -3,9 +3,10 @@
 ghost use Rattle.std.specs.Prelude.{◌≡◌, ◌++◌, OnOk};
 ghost use Rattle.dex_cli.specs.Texts.{envelope_reason_text, reason_text, refused_line};
 
-use crate::lines::{put, put_number};
-use crate::reasons::{put_counts, put_set_reason, segment_fault};
+use crate::reasons::{put_counts, put_draft_reason, put_set_reason, segment_fault};
+use dsd_record::DraftReason;
 use dxs_envelope::EnvelopeReason;
+use end_report::{put, put_number};
 use segments::SetReason;
 use std::alloc::{AllocError, Global};
 
@@ -24,6 +25,8 @@ pub enum Reason {
     Set(SetReason),
     /// A transmission is none.
     Envelope(EnvelopeReason),
+    /// Drafts or counts are none.
+    Draft(DraftReason),
     /// A frame says another check than that of its bytes.
     Damaged,
     /// No frame begins so.
@@ -47,6 +50,7 @@ fn put_reason(alloc: Global, out: &mut Vec<u8>, reason: &Reason) -> Result<(), A
     match reason {
         Reason::Set(reason) => put_set_reason(alloc, out, reason),
         Reason::Envelope(reason) => put_envelope_reason(alloc, out, *reason),
+        Reason::Draft(reason) => put_draft_reason(alloc, out, *reason),
         Reason::Damaged => put(out, "DAMAGED"),
         Reason::Bad => put(out, "BAD"),
     }

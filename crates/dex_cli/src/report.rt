@@ -4,19 +4,23 @@ ghost use Rattle.std.specs.Prelude.{◌≡◌, ◌++◌, codes, OnErr, IfOk, len
 ghost use Rattle.std.specs.Cow.{cow_slice_items};
 ghost use Rattle.std.specs.Fmt.{decimal};
 ghost use Rattle.dex_line.specs.Captured.{frames_in};
-ghost use Rattle.dex_cli.specs.Texts.{line, both, ending_text, frames_text, journal_text, printed, refused_line, set_text, sets_text};
-ghost use Rattle.dex_cli.specs.Verdicts.{IsComposed, status_at, status_of, status_of_line};
+ghost use Rattle.dex_cli.specs.Texts.{ending_text, frames_text, journal_text, printed, refused_line, set_text, sets_text};
+ghost use Rattle.end_report.specs.Lines.{line, both};
+ghost use Rattle.dex_cli.specs.Verdicts.{IsComposed, status_at, status_of as status, status_of_end, status_of_line};
 
 use crate::check_line::put_captured;
+use crate::end_job::EndReport;
 use crate::journal_summary::{JournalSummary, put_journal};
-use crate::lines::{put, put_count};
 use crate::refusal::{Refusal, put_refusal};
 use crate::status::{
-    DONE, INPUT_REFUSED, JOURNAL_REFUSED, SOURCE_FAILED, STATION_FAILED, WORDS_REFUSED,
+    DONE, INPUT_REFUSED, JOURNAL_FULL, JOURNAL_REFUSED, OPEN, PARTNER_REFUSED, SESSION_LOST,
+    SOURCE_FAILED, STATION_FAILED, TOO_MUCH_HEARD, WORDS_REFUSED,
 };
 use crate::summary::{SetSummary, put_set};
 use crate::text_summary::{TextSummary, put_text};
 use crate::verdict::Verdict;
+use dex_handshake::SessionEnd;
+use end_report::{Ending, put, put_bytes, put_count};
 use std::alloc::{AllocError, Global};
 use std::borrow::CowSlice;
 
@@ -31,7 +35,7 @@ pub struct Report {
 #[tactic(auto, unfolding(crate::specs::Texts::printed))]
 pub fn report_of(alloc: Global, verdict: &Verdict) -> Result<Report, AllocError>
     ensures text { IfOk result (λ report. cow_slice_items report.text ≡ printed verdict.now) }
-    ensures status { IfOk result (λ report. report.status ≡ status_of verdict.now) }
+    ensures status { IfOk result (λ report. report.status ≡ status verdict.now) }
     ensures memory { OnErr result (IsComposed verdict.now) }
 {
     match verdict {
@@ -46,6 +50,8 @@ pub fn report_of(alloc: Global, verdict: &Verdict) -> Result<Report, AllocError>
         Verdict::NotEmpty(size) => of_journal_fault(alloc, "NOT EMPTY", *size),
         Verdict::Shown(journal) => of_journal(alloc, journal),
         Verdict::NotAJournal(place) => of_journal_fault(alloc, "NOT A JOURNAL", *place),
+        Verdict::Ran(end) => of_end(alloc, end),
+        Verdict::Full(length) => of_full_journal(alloc, *length),
     }
 }
 
@@ -123,4 +129,39 @@ fn of_journal_fault(alloc: Global, name: &str, bytes: u64) -> Result<Report, All
     let mut out = Vec::new(alloc);
     put_count(alloc, &mut out, name, bytes)?;
     Ok(made(out, JOURNAL_REFUSED))
+}
+
+fn of_end(alloc: Global, end: &EndReport) -> Result<Report, AllocError>
+    ensures text { IfOk result (λ report. cow_slice_items report.text ≡ end.now.text.items) }
+    ensures status { IfOk result (λ report. report.status ≡ status_of_end end.now.ending end.now.settled) }
+{
+    let mut out = Vec::new(alloc);
+    put_bytes(&mut out, &end.text)?;
+    Ok(made(out, status_of(end.ending, end.settled)))
+}
+
+fn of_full_journal(alloc: Global, length: u64) -> Result<Report, AllocError>
+    ensures text { IfOk result (λ report. cow_slice_items report.text ≡ line (both (codes "FULL") (decimal length))) }
+    ensures status { IfOk result (λ report. report.status ≡ JOURNAL_FULL) }
+{
+    let mut out = Vec::new(alloc);
+    put_count(alloc, &mut out, "FULL", length)?;
+    Ok(made(out, JOURNAL_FULL))
+}
+
+/// The status of an end whose session ended so.
+fn status_of(ending: Ending, settled: bool) -> u8
+    ensures { result ≡ status_of_end ending settled }
+{
+    match ending {
+        Ending::Session(SessionEnd::Complete) if settled => DONE,
+        Ending::Session(SessionEnd::Complete) => OPEN,
+        Ending::Session(SessionEnd::Silent) => SESSION_LOST,
+        Ending::Session(SessionEnd::TriesSpent(_)) => SESSION_LOST,
+        Ending::Session(SessionEnd::Unplugged) => SESSION_LOST,
+        Ending::Session(SessionEnd::PartnerRefused(_)) => PARTNER_REFUSED,
+        Ending::Session(SessionEnd::WrongPartner(_)) => PARTNER_REFUSED,
+        Ending::Session(SessionEnd::TextLimit) => TOO_MUCH_HEARD,
+        Ending::Noise => TOO_MUCH_HEARD,
+    }
 }

@@ -3,6 +3,9 @@
 /// The job was done.
 pub const DONE: u8 = 0;
 
+/// The session of an end is complete, and a delivery of its journal or a draft is not final.
+pub const OPEN: u8 = 1;
+
 /// The words are none of a job.
 pub const WORDS_REFUSED: u8 = 2;
 
@@ -21,5 +24,17 @@ pub const STATION_FAILED: u8 = 6;
 /// The journal is refused: one that was to be made is not empty, or one that was to be shown is none.
 pub const JOURNAL_REFUSED: u8 = 7;
 
+/// The session of an end was unplugged, heard nothing for too long, or had a block repeated too often.
+pub const SESSION_LOST: u8 = 8;
+
+/// An end heard more than a session or a text may have.
+pub const TOO_MUCH_HEARD: u8 = 9;
+
+/// The partner refused the session, or is not the peer of the journal.
+pub const PARTNER_REFUSED: u8 = 10;
+
 /// Memory is wanting.
 pub const NO_MEMORY: u8 = 11;
+
+/// The journal has no room for the next entry.
+pub const JOURNAL_FULL: u8 = 12;

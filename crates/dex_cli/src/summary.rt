@@ -3,14 +3,15 @@
 ghost use Rattle.std.specs.Prelude.{◌≡◌, ◌++◌, OnOk};
 ghost use Rattle.dsd_record.specs.declared.set_view.SetView.TheVariants as sets;
 ghost use Rattle.dex_cli.specs.Summaries.{summary_of as told_of};
-ghost use Rattle.dex_cli.specs.Texts.{day_behind, delivery_text, flag_text, form_text, name_text, set_text, totals_text};
-ghost use Rattle.dex_cli.specs.Texts.{line as ended};
+ghost use Rattle.dex_cli.specs.Texts.{day_behind, delivery_text, form_text, name_text, set_text, totals_text};
+ghost use Rattle.end_report.specs.Reports.{flag_text};
+ghost use Rattle.end_report.specs.Lines.{line as ended};
 
-use crate::lines::{put, put_bytes, put_count, put_pair};
 use adjustment_895::Answer895;
 use base_record_894::Base;
 use dsd_record::SetView;
 use dsd_values::{Cents, Check, Day, DeliveryNumber, Flag, Level, Word, write_check, write_day};
+use end_report::{put, put_bytes, put_count, put_pair};
 use segments::Seal;
 use std::alloc::{AllocError, Global};
 

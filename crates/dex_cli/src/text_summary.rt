@@ -4,10 +4,10 @@ ghost use Rattle.std.specs.Prelude.{◌≡◌, ◌++◌, OnOk, IfOk, length};
 ghost use Rattle.dex_cli.specs.Verdicts.{status_at};
 ghost use Rattle.dex_cli.specs.Texts.{ending_text, sets_text};
 
-use crate::lines::{put, put_count};
 use crate::refusal::{Refusal, put_refusal};
 use crate::status::{DONE, INPUT_REFUSED};
 use crate::summary::{SetSummary, put_set};
+use end_report::{put, put_count};
 use std::alloc::{AllocError, Global};
 
 /// What is printed of a text of sets.

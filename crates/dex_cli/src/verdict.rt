@@ -1,5 +1,6 @@
 //! What a run comes to.
 
+use crate::end_job::EndReport;
 use crate::journal_summary::JournalSummary;
 use crate::refusal::Refusal;
 use crate::summary::SetSummary;
@@ -28,6 +29,10 @@ pub enum Verdict {
     NotEmpty(u64),
     /// The journal holds entries, of which this is printed.
     Shown(JournalSummary),
-    /// It holds none that are legal for the end whose journal it is, and is refused at this place.
+    /// An end ran until its session ended or what it heard was noise, and this is printed of it.
+    Ran(EndReport),
+    /// The journal of an end has no room for the next entry, with which it would have so many bytes.
+    Full(u64),
+    /// It holds none that are legal for the end whose journal it is, or which runs, and is refused at this place.
     NotAJournal(u64),
 }

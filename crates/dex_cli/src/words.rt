@@ -1,8 +1,9 @@
 //! The words of the command line.
 
 ghost use Rattle.std.specs.Prelude.{◌≡◌, ◌↔◌, IfOk, IsTrue, IsErrOf, map, string_bytes, [], ◌∷◌};
-ghost use Rattle.dex_cli.specs.Words.{AsksJournal, IsOfNoJob, Spells};
+ghost use Rattle.dex_cli.specs.Words.{AsksEnd, AsksJournal, IsOfNoJob, Spells};
 
+use crate::end_words::{EndNames, read_end};
 use crate::fault::WordsFault;
 use crate::format_words::{NewJournal, read_format};
 use crate::name::Name;
@@ -29,6 +30,10 @@ pub enum Job {
     Format(NewJournal),
     /// `show JOURNAL`: prints the entries of a journal.
     Show(Name),
+    /// `handheld JOURNAL PORT`: runs the supplier's end, with the drafts of the source.
+    Handheld(EndNames),
+    /// `receiver JOURNAL PORT`: runs the receiver's end, with the counts of the source.
+    Receiver(EndNames),
 }
 
 /// The job that the words, those after the program's name, spell. Only a journal's name takes memory.
@@ -59,6 +64,23 @@ fn read_journal_job(alloc: Global, words: &[String]) -> Result<Job, WordsFault>
         Ok(journal) => Ok(Job::Show(journal)),
         Err(WordsFault::Refused) => match read_format(alloc, words) {
             Ok(new) => Ok(Job::Format(new)),
+            Err(WordsFault::Refused) => read_end_job(alloc, words),
+            Err(WordsFault::Memory) => Err(WordsFault::Memory),
+        },
+        Err(WordsFault::Memory) => Err(WordsFault::Memory),
+    }
+}
+
+/// The job of an end that the words spell.
+fn read_end_job(alloc: Global, words: &[String]) -> Result<Job, WordsFault>
+    ensures found { IfOk result (λ job. Spells job (map string_bytes words.now)) }
+    ensures refused { IsErrOf result WordsFault.Refused → AsksEnd (map string_bytes words.now) → ⊥ }
+    ensures memory { IsErrOf result WordsFault.Memory → AsksEnd (map string_bytes words.now) }
+{
+    match read_end(alloc, words, "handheld") {
+        Ok(names) => Ok(Job::Handheld(names)),
+        Err(WordsFault::Refused) => match read_end(alloc, words, "receiver") {
+            Ok(names) => Ok(Job::Receiver(names)),
             Err(fault) => Err(fault),
         },
         Err(WordsFault::Memory) => Err(WordsFault::Memory),

@@ -20,7 +20,7 @@ ghost use Rattle.dex_line.specs.declared.cutter.TheConstants.{BLOCK_WRITTEN};
 ghost use Rattle.dex_line.specs.declared.frame.TheConstants.{BLOCK_READ, HEADER_BYTES};
 ghost use Rattle.dsd_journal.specs.declared.limits.TheConstants.{JOURNAL_BYTES};
 ghost use Rattle.dex_cli.specs.declared.job.TheConstants.{INPUT_BYTES};
-ghost use Rattle.dex_cli.specs.declared.status.TheConstants.{DONE, WORDS_REFUSED, INPUT_REFUSED, SOURCE_FAILED, SINK_FAILED, STATION_FAILED, JOURNAL_REFUSED, NO_MEMORY};
+ghost use Rattle.dex_cli.specs.declared.status.TheConstants.{DONE, OPEN, WORDS_REFUSED, INPUT_REFUSED, SOURCE_FAILED, SINK_FAILED, STATION_FAILED, JOURNAL_REFUSED, SESSION_LOST, TOO_MUCH_HEARD, PARTNER_REFUSED, NO_MEMORY, JOURNAL_FULL};
 
 /// Of numbers: cents, costs in ten-thousandths and percents in hundredths.
 pub fn numbers()
@@ -61,11 +61,16 @@ pub fn sizes()
 /// How the program ends.
 pub fn statuses()
     ensures done { DONE ≡ 0 }
+    ensures some_open { OPEN ≡ 1 }
     ensures words { WORDS_REFUSED ≡ 2 }
     ensures input { INPUT_REFUSED ≡ 3 }
     ensures source { SOURCE_FAILED ≡ 4 }
     ensures sink { SINK_FAILED ≡ 5 }
     ensures station { STATION_FAILED ≡ 6 }
     ensures journal { JOURNAL_REFUSED ≡ 7 }
+    ensures lost { SESSION_LOST ≡ 8 }
+    ensures heard { TOO_MUCH_HEARD ≡ 9 }
+    ensures partner { PARTNER_REFUSED ≡ 10 }
     ensures memory { NO_MEMORY ≡ 11 }
+    ensures full { JOURNAL_FULL ≡ 12 }
 {}
