@@ -9,6 +9,7 @@ import pty
 import select
 import subprocess
 import sys
+import tempfile
 import termios
 import tty
 
@@ -26,16 +27,17 @@ def port():
 def main():
     program, *files = sys.argv[1:]
     ends = [port(), port()]
-    jobs = []
-    for role, end, journal, told in zip(("handheld", "receiver"), ends, files[0::2], files[1::2]):
+    jobs, reports = [], [tempfile.TemporaryFile(), tempfile.TemporaryFile()]
+    for role, end, journal, told, report in zip(("handheld", "receiver"), ends, files[0::2], files[1::2], reports):
         with open(told, "rb") as source:
-            jobs.append(subprocess.Popen([program, role, journal, end[2]], stdin=source, stdout=subprocess.PIPE))
+            jobs.append(subprocess.Popen([program, role, journal, end[2]], stdin=source, stdout=report))
     sides = [end[0] for end in ends]
     while any(job.poll() is None for job in jobs):
         for side in select.select(sides, [], [], 0.1)[0]:
             os.write(sides[1 - sides.index(side)], os.read(side, 512))
-    for job in jobs:
-        sys.stdout.write(job.stdout.read().decode())
+    for report in reports:
+        report.seek(0)
+        sys.stdout.write(report.read().decode())
     return max(job.returncode for job in jobs)
 
 
