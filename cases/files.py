@@ -395,6 +395,47 @@ def killed():
     told("killed within a format, 200 times", wrong[:3])
 
 
+def end_words(role="handheld", port="/dev/null"):
+    return [role, "end.dex", port]
+
+
+def ends(name, words, stands=HEADER, redirect="", status=6, output=FAULT, **how):
+    """One end on a journal, of which no byte changes."""
+    write("end.dex", stands)
+    os.chmod("end.dex", 0o666)
+    got, printed = run(words, redirect, **how)
+    wrong = []
+    if got != status:
+        wrong.append(f"status {got}")
+    if output is not None and printed != output:
+        wrong.append(f"printed {printed[:200]}")
+    if content("end.dex") != stands:
+        wrong.append("the journal changed")
+    os.unlink("end.dex")
+    told(name, wrong)
+
+
+def ports():
+    """Ends on ports that are none, and with an output that is none."""
+    silent = b"SESSION SILENT\n"
+    ends("an end that nobody answers", end_words(), status=8, output=silent)
+    ends("an end on a port that is missing", end_words(port="missing"))
+    told("a missing port is not made", [] if not os.path.exists("missing") else ["it is"])
+    os.mkdir("a folder")
+    ends("an end on a port that is a folder", end_words(port="a folder"))
+    os.rmdir("a folder")
+    write("a port", b"")
+    for mode in (0o000, 0o444, 0o222):
+        os.chmod("a port", mode)
+        ends(f"an end on a port of mode {mode:o}", end_words(port="a port"), **rights)
+    os.unlink("a port")
+    os.symlink("end.dex", "another name")
+    ends("an end on its journal by another name", end_words(port="another name"))
+    os.unlink("another name")
+    ends("an end whose output is full", end_words(), redirect="> /dev/full", status=5, output=b"")
+    ends("an end whose output is closed", end_words(), redirect=">&-", status=5, output=b"")
+
+
 def main():
     program = os.path.abspath(sys.argv[1] if len(sys.argv) > 1 else "crates/dex/out/dex")
     with tempfile.TemporaryDirectory() as folder:
@@ -406,7 +447,7 @@ def main():
         if os.geteuid() == 0:
             nobody = pwd.getpwnam("nobody")
             rights.update(user=nobody.pw_uid, group=nobody.pw_gid, extra_groups=[])
-        for part in (plain, closed, standard, others, held, denied, full, synced, race, killed, shown, shows_at_once, longest):
+        for part in (plain, closed, standard, others, held, denied, full, synced, race, killed, shown, shows_at_once, longest, ports):
             part()
         os.chdir("/")
     print(f"{passed} passed, {failed} failed")
