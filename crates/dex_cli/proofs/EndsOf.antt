@@ -10,6 +10,7 @@ use Rattle.dsd_journal.specs.Devices.{KeepsTalk, Opens, since}
 use Rattle.dsd_journal.specs.JournalImage.{Holds}
 use Rattle.dsd_journal.specs.declared.entry.Entry.{Entry}
 use Rattle.dsd_journal.specs.declared.header.Header.{Header}
+use Rattle.dsd_end.specs.FullTurns.{RunFull}
 use Rattle.dsd_end.specs.Polls.{HearsMore}
 use Rattle.dsd_end.specs.RunSoFar.{Runs}
 use Rattle.dsd_end.specs.Standings.{Standing, first_standing}
@@ -101,5 +102,10 @@ ends_so tells role chooser names served opening first last faults (Ok (verdicts.
   running = running;
   reported = subst (λ (s : Standing). IsReported tells chooser s last opening.opened served.after report) is polls;
 }
-ends_so tells role chooser names served opening first last faults (Ok (verdicts.Full length)) same is running polls = λ t. record { opening = opening; standing = last; running = running t }
+ends_so tells role chooser names served opening first last faults (Ok (verdicts.Full length)) same is running polls = record {
+  opening = opening;
+  last = last;
+  running = running;
+  full = subst (λ (s : Standing). RunFull chooser s length) is polls;
+}
 ends_so tells role chooser names served opening first last faults (Ok _) same is running polls = absurd polls

@@ -25,6 +25,7 @@ use Rattle.receiver_core.specs.CountTexts.{Says as SaysCounts}
 use Rattle.receiver_core.specs.Reading.{counts_of}
 use Rattle.receiver_core.specs.declared.count.Count.{Count}
 use Rattle.dsd_end.specs.EndFaults.{IsNoise}
+use Rattle.dsd_end.specs.FullTurns.{RunFull}
 use Rattle.dsd_end.specs.Polls.{HearsMore, PolledAlong}
 use Rattle.dsd_end.specs.RunSoFar.{Runs}
 use Rattle.dsd_end.specs.Standings.{Standing, first_standing}
@@ -124,7 +125,7 @@ pub record IsReported (tells : Type 0) (chooser : Chooser) (first last : Standin
 abbrev pub Polls : Type 0 → Chooser → Standing → Standing → Served → Verdict → Type 0
 Polls tells chooser first last served verdicts.StationFault = Rose served.faults served.faults_after
 Polls tells chooser first last served (verdicts.Ran report) = IsReported tells chooser first last served.before served.after report
-Polls tells chooser first last served (verdicts.Full length) = Unit {0}
+Polls tells chooser first last served (verdicts.Full length) = RunFull chooser first length
 Polls tells chooser first last served _ = ⊥
 
 -- ---- what the job comes to
@@ -136,11 +137,18 @@ pub record IsRan (tells : Type 0) (role : Role) (chooser : Chooser) (names : End
   pub running : tells → IsRunning role chooser names opening last before after
   pub reported : IsReported tells chooser (first_standing opening.header opening.first) last opening.opened after report
 
+-- The end came to an own turn that adds an entry for which the journal has no room.
+pub record IsFull (tells : Type 0) (role : Role) (chooser : Chooser) (names : EndNames) (before after : Told) (length : ℕ) : Type 0 where
+  pub opening : Opening
+  pub last : Standing
+  pub running : tells → IsRunning role chooser names opening last before after
+  pub full : RunFull chooser (first_standing opening.header opening.first) length
+
 -- What the job comes to, once its choices are read. Of content it says something where the station tells its content.
 abbrev pub Ends : Type 0 → Role → Chooser → EndNames → Served → Verdict → Type 0
 Ends tells role chooser names served verdicts.StationFault =
     Rose served.faults served.faults_after × (tells → IsIdle names served.before served.after ⊎ HasRun role chooser names served.before served.after)
 Ends tells role chooser names served (verdicts.NotAJournal place) = tells → IsBookRefused role served.before.journal place × IsIdle names served.before served.after
 Ends tells role chooser names served (verdicts.Ran report) = IsRan tells role chooser names served.before served.after report
-Ends tells role chooser names served (verdicts.Full length) = tells → HasRun role chooser names served.before served.after
+Ends tells role chooser names served (verdicts.Full length) = IsFull tells role chooser names served.before served.after length
 Ends tells role chooser names served _ = ⊥
