@@ -4,14 +4,13 @@ ghost use Rattle.std.specs.Prelude.{◌≡◌, ◌++◌, OnOk};
 ghost use Rattle.dsd_record.specs.declared.set_view.SetView.TheVariants as sets;
 ghost use Rattle.dex_cli.specs.Summaries.{summary_of as told_of};
 ghost use Rattle.dex_cli.specs.Texts.{day_behind, delivery_text, form_text, name_text, set_text, totals_text};
-ghost use Rattle.end_report.specs.Reports.{flag_text};
 ghost use Rattle.end_report.specs.Lines.{line as ended};
 
 use adjustment_895::Answer895;
 use base_record_894::Base;
 use dsd_record::SetView;
 use dsd_values::{Cents, Check, Day, DeliveryNumber, Flag, Level, Word, write_check, write_day};
-use end_report::{put, put_bytes, put_count, put_pair};
+use end_report::{flag, put, put_bytes, put_count, put_pair};
 use segments::Seal;
 use std::alloc::{AllocError, Global};
 
@@ -95,21 +94,12 @@ fn name(form: SetForm) -> &'static str
     }
 }
 
-fn flag(flag: Flag) -> &'static [u8]
-    ensures { result.now ≡ flag_text flag }
-{
-    match flag {
-        Flag::Debit => b"D",
-        Flag::Credit => b"C",
-    }
-}
-
 /// Prints the line of the delivery, with the day where the set states it.
 fn put_delivery(out: &mut Vec<u8>, set: &SetSummary) -> Result<(), AllocError>
     ensures { OnOk result (out.new.items ≡ out.old.items ++ ended (delivery_text set.now)) }
 {
     put(out, "DELIVERY ")?;
-    put_bytes(out, flag(set.flag))?;
+    put(out, flag(set.flag))?;
     put(out, " ")?;
     put_bytes(out, set.number.as_slice())?;
     put_day(out, set.form)?;

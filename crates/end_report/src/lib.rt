@@ -9,3 +9,4 @@ mod settled;
 pub use ending::{Ending, put_ending};
 pub use lines::{put, put_bytes, put_count, put_named, put_number, put_pair, put_signed};
 pub use report::{are_settled, put_deliveries, put_refused, put_report, put_unproposed};
+pub use settled::flag;

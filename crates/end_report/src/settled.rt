@@ -62,7 +62,8 @@ fn put_name(out: &mut Vec<u8>, version: &DsdRecord) -> Result<(), AllocError>
     put_bytes(out, write_day(version.day()).as_slice())
 }
 
-fn flag(flag: Flag) -> &'static str
+/// The letter of a flag.
+pub fn flag(flag: Flag) -> &'static str
     ensures { result.now ≡ flag_text flag }
 {
     match flag {
