@@ -53,6 +53,23 @@ def run(words, redirect="", **how):
     return done.returncode, done.stdout
 
 
+def unlike(got, printed, status, output):
+    """What is wrong with a status that is none of these, and with an output that is not this one, where one is given."""
+    wrong = []
+    if got not in status:
+        wrong.append(f"status {got}, not {' or '.join(map(str, status))}")
+    if output is not None and printed != output:
+        wrong.append(f"printed {printed[-300:]}, not {output[-300:]}")
+    return wrong
+
+
+def unlike_front(stands, begins):
+    """What is wrong with a file that does not begin so."""
+    if (stands or b"").startswith(begins):
+        return []
+    return [f"the file begins with {(stands or b'')[:300]}, not {begins[:300]}"]
+
+
 def format_words(journal, number=1):
     return ["format", "handheld", f"HH0000000{number}", f"RR0000000{number}", journal]
 
@@ -82,15 +99,10 @@ def check(name, redirect="", journal="j.dex", before=None, after=None, begins=No
         got, printed = run(format_words(journal), redirect, **how)
     except subprocess.TimeoutExpired:
         return told(name, ["it hangs"])
-    wrong = []
+    wrong = unlike(got, printed, status, output)
     stands = content("j.dex")
-    if got not in status:
-        wrong.append(f"status {got}, not {' or '.join(map(str, status))}")
-    if output is not None and printed != output:
-        wrong.append(f"printed {printed}, not {output}")
     if begins is not None:
-        if not (stands or b"").startswith(begins):
-            wrong.append(f"the file begins with {stands}, not {begins}")
+        wrong += unlike_front(stands, begins)
     elif stands != (before if after is None else after):
         wrong.append(f"the file is {stands}")
     told(name, wrong)
@@ -113,15 +125,10 @@ def show(name, image=None, redirect="", journal="j.dex", after=None, begins=None
         got, printed = run(["show", journal], redirect, **how)
     except subprocess.TimeoutExpired:
         return told(name, ["it hangs"])
-    wrong = []
+    wrong = unlike(got, printed, status, output)
     stands = content("j.dex")
-    if got not in status:
-        wrong.append(f"status {got}, not {' or '.join(map(str, status))}")
-    if output is not None and printed != output:
-        wrong.append(f"printed {printed[-300:]}, not {output[-300:]}")
     if begins is not None:
-        if not (stands or b"").startswith(begins):
-            wrong.append(f"the file begins with {stands[:300]}, not {begins[:300]}")
+        wrong += unlike_front(stands, begins)
     elif stands != (image if after is None else after):
         wrong.append("the file is another")
     elif after is None and stamp("j.dex") != before:
