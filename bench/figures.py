@@ -4,7 +4,7 @@
 Makes large inputs, runs the program on each, and prints what it took: instructions (counted by
 callgrind), instructions a byte, and peak memory. Then it measures adjustments of 10 to 999 lines with
 the program bench_versions, the sets of a transmission one by one, a session of the line with the
-program bench_line, entries of a journal with bench_journal, and the opening of a long one with book_trace. It judges nothing and always ends with status 0. PROGRAM is crates/dex/out/dex where none is given.
+program bench_line, entries of a journal with bench_journal, the opening of a long one with book_trace, and a session of both ends with bench_end. It judges nothing and always ends with status 0. PROGRAM is crates/dex/out/dex where none is given.
 """
 import os
 import re
@@ -332,6 +332,44 @@ def measure_book(program, folder):
     print("opened: %s instructions, %s KiB, status %d, %s" % (instructions(command, calls, folder), peak or "-", status, last))
 
 
+def route(count, lines=50):
+    """Drafts of so many deliveries, and counts that find one item less in each fourth."""
+    drafts, counts = [], []
+    for i in range(1, count + 1):
+        drafts += ["DRAFT %d D 20240101 - - - -" % (500_000 + i), "SIGN LOAD", "TOLERANCE 1000000"]
+        counts += ["COUNT %d" % (500_000 + i), "SIGN LOAD", "COUNTER NO"]
+        for j in range(1, lines + 1):
+            quantity, cost = 1 + (7 * i + 3 * j) % 24, 1 + (13 * i + 17 * j) % 900
+            found = quantity - 1 if j == 1 and i % 4 == 0 else quantity
+            drafts.append("ITEM %d %d EA - %d.%02d" % (j, quantity, cost // 100, cost % 100))
+            counts.append("ITEM %d %d %d.%02d" % (j, found, cost // 100, cost % 100))
+        drafts.append("END")
+        counts.append("END")
+    return ["".join(line + "\n" for line in lines).encode() for lines in (drafts, counts)]
+
+
+def measure_ends(program, folder):
+    """What each end of a session takes alone, with its script read, its journal made and what the other end said fed to it."""
+    if not os.access(program, os.X_OK):
+        print("\nno program at", program, "- build it with: cd crates/bench_end && rt run")
+        return
+    for count in (10, 100, 200):
+        drafts, counts = route(count)
+        script = os.path.join(folder, "script")
+        with open(script, "wb") as file:
+            file.write(drafts + counts)
+        size = str(len(drafts))
+        status, peak, output = run([program, "both", size], script)
+        print("\n%d deliveries of 50 lines, both ends in %s KiB" % (count, peak or "-"))
+        print(output.decode(), end="")
+        both = instructions([program, "both", size], script, folder)
+        if both is None:
+            continue
+        for role in ("supplier", "receiver"):
+            alone = instructions([program, role, size], script, folder) - both
+            print("%s alone: %d instructions, %d a delivery" % (role, alone, alone // count))
+
+
 def main():
     program = os.path.abspath(sys.argv[1]) if len(sys.argv) > 1 else os.path.join(HOME, "crates", "dex", "out", "dex")
     if not os.access(program, os.X_OK):
@@ -345,6 +383,7 @@ def main():
         measure_line(os.path.join(HOME, "crates", "bench_line", "out", "bench_line"), folder)
         measure_journal(os.path.join(HOME, "crates", "bench_journal", "out", "bench_journal"), folder)
         measure_book(os.path.join(HOME, "crates", "book_trace", "out", "book_trace"), folder)
+        measure_ends(os.path.join(HOME, "crates", "bench_end", "out", "bench_end"), folder)
 
 
 if __name__ == "__main__":

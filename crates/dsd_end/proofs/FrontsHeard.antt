@@ -60,7 +60,7 @@ bytes_ended chooser standing bytes ended none =
 
 -- ---- a front, and then the rest
 
-scanned_on : (standing : Standing) (front rest : List ℕ) → scanned standing (front ++ rest) ≡ hear_all (scanned standing front) rest
+pub scanned_on : (standing : Standing) (front rest : List ℕ) → scanned standing (front ++ rest) ≡ hear_all (scanned standing front) rest
 scanned_on standing front rest = fold-append hear (hearing standing.begun []) front rest
 
 module _ (chooser : Chooser) (standing : Standing) (front rest : List ℕ) where

@@ -35,3 +35,5 @@ pub mod Waiting
 pub mod PollsJoined
 pub mod Opened
 pub mod Filling
+mod BusyComing
+mod NoiseHeard

@@ -1,5 +1,5 @@
 -- Polls, one after another.
-use Rattle.std.proofs.Common.{◌≡◌, ℕ, ◌+◌, ◌≤◌, false, List, [], ◌∷◌, ◌++◌, length, Option, Some, None, refl, sym, ◌∙◌, ap, subst, arith, append_assoc, append-nil, length-append}
+use Rattle.std.proofs.Common.{◌≡◌, ℕ, ◌+◌, ◌≤◌, ◌<◌, false, List, [], ◌∷◌, ◌++◌, length, Option, Some, None, refl, sym, ◌∙◌, ap, subst, arith, append_assoc, append-nil, length-append}
 use Rattle.dex_handshake.specs.declared.session_end.SessionEnd.{SessionEnd}
 use Rattle.dex_handshake.specs.LineTable.{Line, Ready, Bidding, Awaiting, SentAll, InText, Finished, Ended}
 use Rattle.dsd_record.specs.Choices.{Chooser}
@@ -77,10 +77,9 @@ module _ (tells : Type 0) (chooser : Chooser) (old : Standing) (before : Told) w
           told = told_all;
         }
 
-    -- or this was the last poll
-    pub so_far_last : CostsPatience now next → PolledAlong tells chooser old next before after
-    so_far_last costs =
-        let some = costs.some in
+    -- or this was the last poll, for which there was patience
+    pub so_far_to : 0 < patience now → PolledAlong tells chooser old next before after
+    so_far_to some =
         record {
           polls = s.polls ++ p.heard ∷ [];
           most = omega (arith, s.left, some, length-append s.polls (p.heard ∷ []));
@@ -89,6 +88,9 @@ module _ (tells : Type 0) (chooser : Chooser) (old : Standing) (before : Told) w
           comes = p.comes;
           told = told_all;
         }
+
+    pub so_far_last : CostsPatience now next → PolledAlong tells chooser old next before after
+    so_far_last costs = so_far_to costs.some
 
 -- ---- what was heard
 

@@ -255,7 +255,7 @@ ended_quiets (SentAll own) e = absurd (cc)
 ended_quiets (InText own taking) e = absurd (cc)
 ended_quiets (Finished own text) e = absurd (cc)
 
-some_patience : (standing : Standing) → IsQuietSoFar standing → 0 < patience standing
+pub some_patience : (standing : Standing) → IsQuietSoFar standing → 0 < patience standing
 some_patience standing quiet = by_end (has_ended standing.line) refl
   where
     by_end : (ended : Bool) → has_ended standing.line ≡ ended → 0 < patience standing

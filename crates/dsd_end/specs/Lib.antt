@@ -18,4 +18,5 @@ pub mod MachineSeen
 pub mod Patience
 pub mod EndFaults
 pub mod FullTurns
+pub mod BusyTurns
 pub mod EndSeen

@@ -1,15 +1,16 @@
 //! One end.
 
-ghost use Rattle.std.specs.Prelude.{◌≡◌, ◌≤◌, Err, IfOk, List, OnErr, OnOk, Some, false, true};
-ghost use Rattle.dsd_station.specs.Told.{Told};
+ghost use Rattle.std.specs.Prelude.{◌≡◌, ◌≤◌, ◌<◌, Err, IfOk, List, OnErr, OnOk, Some, false, true};
+ghost use Rattle.dsd_station.specs.Told.{ReadMayStay, Told};
 ghost use Rattle.dsd_journal.specs.Journals.{Rests};
 ghost use Rattle.dsd_journal.specs.declared.entry.Entry.{Entry};
 ghost use Rattle.dex_handshake.specs.LineTable.{Ended};
+ghost use Rattle.dsd_end.specs.BusyTurns.{IfEndNoMemory, PollBusy, RunBusy};
 ghost use Rattle.dsd_end.specs.FullTurns.{IfEndFull, PollFull, RunFull};
 ghost use Rattle.dsd_end.specs.EndCalls.{MakesCalls};
 ghost use Rattle.dsd_end.specs.EndFaults.{EndsAtStation, IfNoise, IsNoise, IsQuietSoFar};
 ghost use Rattle.dsd_end.specs.EndSeen.{turn_at};
-ghost use Rattle.dsd_end.specs.Patience.{CostsPatience};
+ghost use Rattle.dsd_end.specs.Patience.{CostsPatience, patience};
 ghost use Rattle.dsd_end.specs.Polls.{HearsMore, HearsOnce, Polled, PolledAlong, with_flags};
 ghost use Rattle.dsd_end.specs.RunSoFar.{Runs};
 
@@ -54,7 +55,9 @@ impl<D: Decider> End<D> {
 
     /// How many sets and envelopes were refused. A set that was taken before does not count.
     pub fn refused(&self) -> u64
-        ensures { result ≡ self.now.core.standing.desk.refused }
+        ensures value { result ≡ self.now.core.standing.desk.refused }
+        // It stands under the header of its book.
+        ensures titled { self.now.core.standing.header ≡ self.now.core.book.header }
     {
         self.core.refused()
     }
@@ -89,6 +92,16 @@ impl<D: Decider> End<D> {
         // A run that has come to the old standing goes on, whatever is answered: each stop leaves a run.
         ensures runs { T.tells → (first : List Entry) (beginning : Told) → Runs (D.chooser self.old.decider) first beginning self.old.core.standing (T.told station.old)
             → Runs (D.chooser self.old.decider) first beginning self.new.core.standing (T.told station.new) }
+        // Only an own turn that has something to do takes memory.
+        ensures memory { IfEndNoMemory result (PollBusy T.tells (D.chooser self.old.decider) self.old.core.standing (T.told station.old) (T.told station.new)) }
+        // At `Noise` too the journal holds what the book knows, and that survives each stop.
+        ensures noisy { T.tells → IfNoise result (λ _. Rests self.new.core.book.header self.new.core.book.known (T.told station.new)) }
+        ensures patient { IfNoise result (λ _. 0 < patience self.old.core.standing) }
+        // What a read gives of the journal is among what a stop may leave, where it was so before.
+        ensures stays { T.tells → ReadMayStay (T.told station.old) → ReadMayStay (T.told station.new) }
+        // The book knows the entries of the standing, under its header.
+        ensures entries { self.new.core.book.known ≡ self.new.core.standing.desk.entries }
+        ensures title { self.new.core.book.header ≡ self.new.core.standing.header }
     {
         match self.core.poll(station, &self.decider) {
             Ok(()) => Ok(self.turn()),
@@ -118,6 +131,13 @@ impl<D: Decider> End<D> {
         // A run that has come to the old standing goes on, whatever is answered: each stop leaves a run.
         ensures runs { T.tells → (first : List Entry) (beginning : Told) → Runs (D.chooser self.old.decider) first beginning self.old.core.standing (T.told station.old)
             → Runs (D.chooser self.old.decider) first beginning self.new.core.standing (T.told station.new) }
+        ensures memory { IfEndNoMemory result (RunBusy (D.chooser self.old.decider) self.old.core.standing) }
+        // `Noise` is answered behind the steps over what it heard, after which the journal holds what the book knows.
+        ensures noise_steps { IfNoise result (λ _. PolledAlong T.tells (D.chooser self.old.decider) self.old.core.standing (with_flags self.new.core.standing false false) (T.told station.old) (T.told station.new)) }
+        ensures noisy { T.tells → IfNoise result (λ _. Rests self.new.core.book.header self.new.core.book.known (T.told station.new)) }
+        ensures stays { T.tells → ReadMayStay (T.told station.old) → ReadMayStay (T.told station.new) }
+        ensures entries { self.new.core.book.known ≡ self.new.core.standing.desk.entries }
+        ensures title { self.new.core.book.header ≡ self.new.core.standing.header }
     {
         loop {
             match self.poll(station) {

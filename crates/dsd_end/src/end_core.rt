@@ -1,17 +1,18 @@
 //! What an end is beside its decider.
 
-ghost use Rattle.std.specs.Prelude.{◌≡◌, [], IfOk, OnErr, OnOk, Err, List, false, true};
-ghost use Rattle.dsd_station.specs.Told.{Told};
+ghost use Rattle.std.specs.Prelude.{◌≡◌, ◌<◌, [], IfOk, OnErr, OnOk, Err, List, false, true};
+ghost use Rattle.dsd_station.specs.Told.{ReadMayStay, Told};
 ghost use Rattle.dsd_journal.specs.Journals.{Rests};
 ghost use Rattle.dsd_journal.specs.declared.entry.Entry.{Entry};
 ghost use Rattle.dex_handshake.specs.LineRun.{end_of};
 ghost use Rattle.dex_handshake.specs.LineTable.{started};
 ghost use Rattle.dex_handshake.specs.SessionSeen.{session_seen};
+ghost use Rattle.dsd_end.specs.BusyTurns.{IfEndNoMemory, PollBusy};
 ghost use Rattle.dsd_end.specs.FullTurns.{IfEndFull, PollFull};
 ghost use Rattle.dsd_end.specs.EndCalls.{MakesCalls};
 ghost use Rattle.dsd_end.specs.EndFaults.{EndsAtStation, IfNoise, IsNoise, IsQuietSoFar};
 ghost use Rattle.dsd_end.specs.MachineSeen.{CanGoOn, standing_of};
-ghost use Rattle.dsd_end.specs.Patience.{CostsPatience};
+ghost use Rattle.dsd_end.specs.Patience.{CostsPatience, patience};
 ghost use Rattle.dsd_end.specs.Polls.{HearsOnce, Polled, with_flags};
 ghost use Rattle.dsd_end.specs.RunSoFar.{Runs};
 ghost use Rattle.dsd_end.specs.Standings.{first_standing, is_supplier};
@@ -93,6 +94,14 @@ impl EndCore {
         ensures step { OnOk result (Polled T.tells (D.chooser decider.now) self.old.standing self.new.standing (T.told station.old) (T.told station.new)) }
         ensures runs { T.tells → (first : List Entry) (beginning : Told) → Runs (D.chooser decider.now) first beginning self.old.standing (T.told station.old)
             → Runs (D.chooser decider.now) first beginning self.new.standing (T.told station.new) }
+        // Only an own turn that has something to do takes memory.
+        ensures memory { IfEndNoMemory result (PollBusy T.tells (D.chooser decider.now) self.old.standing (T.told station.old) (T.told station.new)) }
+        ensures noisy { T.tells → IfNoise result (λ _. Rests self.new.book.header self.new.book.known (T.told station.new)) }
+        ensures patient { IfNoise result (λ _. 0 < patience self.old.standing) }
+        ensures stays { T.tells → ReadMayStay (T.told station.old) → ReadMayStay (T.told station.new) }
+        // The book knows the entries of the standing, under its header.
+        ensures entries { self.new.book.known ≡ self.new.standing.desk.entries }
+        ensures title { self.new.book.header ≡ self.new.standing.header }
     {
         if self.failed {
             return Err(EndFault::Failed);
@@ -127,7 +136,8 @@ impl EndCore {
     }
 
     pub(crate) fn refused(&self) -> u64
-        ensures { result ≡ self.now.standing.desk.refused }
+        ensures value { result ≡ self.now.standing.desk.refused }
+        ensures titled { self.now.standing.header ≡ self.now.book.header }
     {
         self.machine.desk.refused()
     }

@@ -2,7 +2,7 @@
 
 ghost use Rattle.std.specs.Prelude.{◌≡◌, ◌≤◌, ◌<◌, ◌+◌, [], false, length, take, IfOk, IsSome, OnOk, is_ok};
 ghost use Rattle.std.specs.List.{flat_map};
-ghost use Rattle.dsd_station.specs.Told.{IsSynced};
+ghost use Rattle.dsd_station.specs.Told.{IsSynced, ReadMayStay};
 ghost use Rattle.dsd_journal.specs.Devices.{KeepsTalk};
 ghost use Rattle.dsd_journal.specs.Journals.{Rests};
 ghost use Rattle.dex_line.specs.FrameShapes.{frame_seen};
@@ -14,6 +14,8 @@ ghost use Rattle.dex_handshake.specs.SessionSeen.{session_seen, step_seen};
 ghost use Rattle.dex_handshake.specs.Sound.{IsSaid};
 ghost use Rattle.dex_handshake.specs.StateSeen.{load_seen};
 ghost use Rattle.own_turn.specs.Desks.{FailsAtStation, IfFull};
+ghost use Rattle.own_turn.specs.IdleTurns.{IfNoMemory};
+ghost use Rattle.dsd_end.specs.BusyTurns.{FrameBusy, TurnBusy};
 ghost use Rattle.dsd_end.specs.FullTurns.{FrameFull, TurnFull};
 ghost use Rattle.dsd_end.specs.EndCalls.{MakesCalls};
 ghost use Rattle.dsd_end.specs.EndSteps.{Says, StepsTo};
@@ -58,9 +60,11 @@ impl Machine {
         requires synced { T.tells → IsSynced (T.told station.old) }
         ensures cause { FailsAtStation result (T.faults station.old) (T.faults station.new) }
         ensures full { IfFull result (λ n. ⊥) }
+        ensures memory { IfNoMemory result ⊥ }
         ensures desk { self.new.desk ≡ self.old.desk }
         ensures standing { standing_of self.new ≡ with_line (standing_of self.old) (step_seen step).next }
         ensures told { T.tells → Says (flat_map spelling (said_of (step_seen step).say)) (is_ok result) (T.told station.old) (T.told station.new) }
+        ensures stays { T.tells → ReadMayStay (T.told station.old) → ReadMayStay (T.told station.new) }
     {
         self.session = step.next;
         match say(station, &step.say) {
@@ -75,9 +79,11 @@ impl Machine {
         requires synced { T.tells → IsSynced (T.told station.old) }
         ensures cause { FailsAtStation result (T.faults station.old) (T.faults station.new) }
         ensures full { IfFull result (λ n. ⊥) }
+        ensures memory { IfNoMemory result ⊥ }
         ensures desk { self.new.desk ≡ self.old.desk }
         ensures standing { standing_of self.new ≡ with_line (standing_of self.old) (gives (session_seen self.old.session) (load_seen load)).next }
         ensures told { T.tells → Says (flat_map spelling (said_of (gives (session_seen self.old.session) (load_seen load)).say)) (is_ok result) (T.told station.old) (T.told station.new) }
+        ensures stays { T.tells → ReadMayStay (T.told station.old) → ReadMayStay (T.told station.new) }
     {
         let step = mem::replace(&mut self.session, Session::Ended(SessionEnd::Complete)).give(load);
         self.go_to(station, step)
@@ -89,6 +95,7 @@ impl Machine {
         requires rests { T.tells → Rests self.old.desk.book.header self.old.desk.book.known (T.told station.old) }
         ensures cause { FailsAtStation result (T.faults station.old) (T.faults station.new) }
         ensures full { IfFull result (TurnFull (D.chooser decider.now) (standing_of self.old)) }
+        ensures memory { IfNoMemory result (TurnBusy (D.chooser decider.now) (standing_of self.old)) }
         ensures header { self.new.desk.book.header ≡ self.old.desk.book.header }
         ensures ready { OnOk result (IsReady self.new) }
         ensures heard { self.new.heard ≡ self.old.heard }
@@ -96,6 +103,7 @@ impl Machine {
         ensures calls { T.tells → MakesCalls (T.told station.old) (T.told station.new) }
         ensures step { OnOk result (StepsTo T.tells (Acts (D.chooser decider.now) (standing_of self.old)) (standing_of self.new) (T.told station.old) (T.told station.new)) }
         ensures leaves { T.tells → LeavesRuns (D.chooser decider.now) (standing_of self.old) (T.told station.old) (T.told station.new) }
+        ensures stays { T.tells → ReadMayStay (T.told station.old) → ReadMayStay (T.told station.new) }
     {
         let Some(text) = self.session.turn() else {
             return Ok(());
@@ -119,6 +127,7 @@ impl Machine {
         requires rests { T.tells → Rests self.old.desk.book.header self.old.desk.book.known (T.told station.old) }
         ensures cause { FailsAtStation result (T.faults station.old) (T.faults station.new) }
         ensures full { IfFull result (FrameFull (D.chooser decider.now) (standing_of self.old) (frame_seen frame)) }
+        ensures memory { IfNoMemory result (FrameBusy (D.chooser decider.now) (standing_of self.old) (frame_seen frame)) }
         ensures header { self.new.desk.book.header ≡ self.old.desk.book.header }
         ensures ready { OnOk result (IsReady self.new) }
         ensures heard { self.new.heard ≡ self.old.heard }
@@ -126,6 +135,7 @@ impl Machine {
         ensures calls { T.tells → MakesCalls (T.told station.old) (T.told station.new) }
         ensures step { OnOk result (StepsTo T.tells (HearsFrame (D.chooser decider.now) (standing_of self.old) (frame_seen frame)) (standing_of self.new) (T.told station.old) (T.told station.new)) }
         ensures leaves { T.tells → LeavesHearing (D.chooser decider.now) (standing_of self.old) (frame_seen frame) (T.told station.old) (T.told station.new) }
+        ensures stays { T.tells → ReadMayStay (T.told station.old) → ReadMayStay (T.told station.new) }
     {
         let step = mem::replace(&mut self.session, Session::Ended(SessionEnd::Complete)).heard(
             frame,

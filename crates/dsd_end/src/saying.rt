@@ -3,7 +3,7 @@
 ghost use Rattle.std.specs.Prelude.{◌≡◌, is_ok};
 ghost use Rattle.std.specs.List.{flat_map};
 ghost use Rattle.dsd_station.specs.Causes.{HasCause};
-ghost use Rattle.dsd_station.specs.Told.{IsSynced};
+ghost use Rattle.dsd_station.specs.Told.{IsSynced, ReadMayStay};
 ghost use Rattle.dex_line.specs.FrameShapes.{answer_seen, frame_seen};
 ghost use Rattle.dex_line.specs.FrameSpelling.{spelling, IsSpoken};
 ghost use Rattle.dex_handshake.specs.LineRun.{said_of};
@@ -19,6 +19,7 @@ pub(crate) fn say<T: Station>(station: &mut T, frame: &Option<Frame>) -> Result<
     requires synced { T.tells → IsSynced (T.told station.old) }
     ensures cause { HasCause (T.faults station.old) (T.faults station.new) result }
     ensures told { T.tells → Says (flat_map spelling (said_of (answer_seen frame.now))) (is_ok result) (T.told station.old) (T.told station.new) }
+    ensures stays { T.tells → ReadMayStay (T.told station.old) → ReadMayStay (T.told station.new) }
 {
     match frame {
         None => Ok(()),
@@ -31,6 +32,7 @@ fn speak<T: Station>(station: &mut T, frame: &Frame) -> Result<(), Failed>
     requires synced { T.tells → IsSynced (T.told station.old) }
     ensures cause { HasCause (T.faults station.old) (T.faults station.new) result }
     ensures told { T.tells → Says (spelling (frame_seen frame.now)) (is_ok result) (T.told station.old) (T.told station.new) }
+    ensures stays { T.tells → ReadMayStay (T.told station.new) }
 {
     let bytes = spell(frame);
     station.speak(bytes.as_slice())

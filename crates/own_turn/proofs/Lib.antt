@@ -15,3 +15,4 @@ pub mod Framing
 pub mod Looping
 pub mod Reached
 pub mod Turning
+mod Idling

@@ -7,3 +7,4 @@ pub mod Desks
 pub mod AskedInside
 pub mod GatheredInside
 pub mod Staging
+pub mod IdleTurns

@@ -8,6 +8,7 @@ ghost use Rattle.dsd_journal.specs.Journals.{Rests};
 ghost use Rattle.delivery_book.specs.BookImages.{IsBookRefused};
 ghost use Rattle.delivery_book.specs.Signing.{Legal};
 ghost use Rattle.own_turn.specs.Desks.{FailsAtStation, IfFull, IsTooLong, Stores, desk_of, text_of};
+ghost use Rattle.own_turn.specs.IdleTurns.{IfNoMemory, IsIdle};
 ghost use Rattle.own_turn.specs.NextEntry.{TurnAddsNext};
 ghost use Rattle.own_turn.specs.OwnTurn.{Turned, sets_lent};
 
@@ -107,7 +108,8 @@ impl Desk {
     ///
     /// The sets of the text are taken, deliveries that await this end are answered, and drafts are proposed: all of that is written behind one gate.
     /// Only then are due sets gathered, and their transmission is what is to be spoken. Where the journal has no room for the next entry, all before
-    /// it is written. The station has to be as the desk's last call left it.
+    /// it is written. Where there is no memory before that, nothing is written; where there is none to gather, all of the turn stays written, and
+    /// nothing is spoken. The station has to be as the desk's last call left it.
     pub fn turn<T: Station, D: Decider>(
         &mut self,
         station: &mut T,
@@ -128,6 +130,10 @@ impl Desk {
         // Whatever it answers, it says nothing, and each stop within it leaves a list to which the entries grow.
         ensures told { T.tells → Stores self.old.book.header (D.chooser decider.now) (sets_lent text.now) self.old.book.entries (T.told station.old) (T.told station.new) }
         ensures stays { T.tells → ReadMayStay (T.told station.new) }
+        // A turn with nothing to do takes no memory.
+        ensures memory { IfNoMemory result (IsIdle self.old.book.header (D.chooser decider.now) (desk_of self.old) text.now → ⊥) }
+        // Without memory the journal holds the entries before it, or those and all that were added.
+        ensures left { T.tells → IfNoMemory result (Rests self.new.book.header self.new.book.entries (T.told station.new)) }
     {
         // What is staged is known beside the entries.
         let _ = self.book.works();

@@ -2,12 +2,15 @@
 
 ghost use Rattle.std.specs.Prelude.{◌≡◌, ◌≤◌, ◌<◌, ◌+◌, [], drop, false, length, take, IfOk, OnOk};
 ghost use Rattle.dsd_station.specs.Effects.{heard_in, IsPiece};
+ghost use Rattle.dsd_station.specs.Told.{ReadMayStay};
 ghost use Rattle.dsd_journal.specs.Devices.{KeepsTalk};
 ghost use Rattle.dsd_journal.specs.Journals.{Rests};
 ghost use Rattle.dex_line.specs.Scanning.{quieted};
 ghost use Rattle.dex_handshake.specs.LineTable.{unplugs};
 ghost use Rattle.dex_handshake.specs.SessionSeen.{session_seen};
 ghost use Rattle.own_turn.specs.Desks.{FailsAtStation, IfFull};
+ghost use Rattle.own_turn.specs.IdleTurns.{IfNoMemory};
+ghost use Rattle.dsd_end.specs.BusyTurns.{BrokenBusy, BytesBusy, HearsBusy};
 ghost use Rattle.dsd_end.specs.FullTurns.{BrokenFull, BytesFull, HearsFull};
 ghost use Rattle.dsd_end.specs.EndCalls.{MakesCalls};
 ghost use Rattle.dsd_end.specs.EndFaults.{IsQuietSoFar};
@@ -41,6 +44,7 @@ impl Machine {
         requires rests { T.tells → Rests self.old.desk.book.header self.old.desk.book.known (T.told station.old) }
         ensures cause { FailsAtStation result (T.faults station.old) (T.faults station.new) }
         ensures full { IfFull result (BytesFull (D.chooser decider.now) (standing_of self.old) bytes.now) }
+        ensures memory { IfNoMemory result (BytesBusy (D.chooser decider.now) (standing_of self.old) bytes.now) }
         ensures header { self.new.desk.book.header ≡ self.old.desk.book.header }
         ensures ready { OnOk result (IsReady self.new) }
         ensures heard { self.new.heard ≡ self.old.heard }
@@ -50,6 +54,7 @@ impl Machine {
         ensures calls { T.tells → MakesCalls (T.told station.old) (T.told station.new) }
         ensures step { IfOk result (λ count. StepsTo T.tells (HearsFront (D.chooser decider.now) (standing_of self.old) (take count bytes.now)) (standing_of self.new) (T.told station.old) (T.told station.new)) }
         ensures leaves { T.tells → LeavesTaking (D.chooser decider.now) (standing_of self.old) bytes.now result (standing_of self.new) (T.told station.old) (T.told station.new) }
+        ensures stays { T.tells → ReadMayStay (T.told station.old) → ReadMayStay (T.told station.new) }
     {
         let (count, answer) = self.scanner.hear(bytes);
         let Some(frame) = answer else {
@@ -73,6 +78,7 @@ impl Machine {
         requires rests { T.tells → Rests self.old.desk.book.header self.old.desk.book.known (T.told station.old) }
         ensures cause { FailsAtStation result (T.faults station.old) (T.faults station.new) }
         ensures full { IfFull result (BytesFull (D.chooser decider.now) (standing_of self.old) bytes.now) }
+        ensures memory { IfNoMemory result (BytesBusy (D.chooser decider.now) (standing_of self.old) bytes.now) }
         ensures header { self.new.desk.book.header ≡ self.old.desk.book.header }
         ensures ready { OnOk result (IsReady self.new) }
         ensures heard { self.new.heard ≡ self.old.heard }
@@ -80,6 +86,7 @@ impl Machine {
         ensures calls { T.tells → MakesCalls (T.told station.old) (T.told station.new) }
         ensures step { OnOk result (StepsTo T.tells (HearsBytes (D.chooser decider.now) (standing_of self.old) bytes.now) (standing_of self.new) (T.told station.old) (T.told station.new)) }
         ensures leaves { T.tells → LeavesPushing (D.chooser decider.now) (standing_of self.old) bytes.now result (standing_of self.new) (T.told station.old) (T.told station.new) }
+        ensures stays { T.tells → ReadMayStay (T.told station.old) → ReadMayStay (T.told station.new) }
     {
         let mut rest = bytes;
         while !rest.is_empty() {
@@ -108,6 +115,7 @@ impl Machine {
         requires rests { T.tells → Rests self.old.desk.book.header self.old.desk.book.known (T.told station.old) }
         ensures cause { FailsAtStation result (T.faults station.old) (T.faults station.new) }
         ensures full { IfFull result (BytesFull (D.chooser decider.now) (standing_of self.old) bytes.now) }
+        ensures memory { IfNoMemory result (BytesBusy (D.chooser decider.now) (standing_of self.old) bytes.now) }
         ensures header { self.new.desk.book.header ≡ self.old.desk.book.header }
         ensures ready { OnOk result (IsReady self.new) }
         ensures heard { OnOk result (self.new.heard ≡ self.old.heard + length bytes.now) }
@@ -115,6 +123,7 @@ impl Machine {
         ensures calls { T.tells → MakesCalls (T.told station.old) (T.told station.new) }
         ensures step { OnOk result (StepsTo T.tells (HearsPiece (D.chooser decider.now) (standing_of self.old) bytes.now) (standing_of self.new) (T.told station.old) (T.told station.new)) }
         ensures leaves { T.tells → LeavesPushing (D.chooser decider.now) (standing_of self.old) bytes.now result (standing_of self.new) (T.told station.old) (T.told station.new) }
+        ensures stays { T.tells → ReadMayStay (T.told station.old) → ReadMayStay (T.told station.new) }
     {
         match self.hear_bytes(station, decider, bytes) {
             Ok(()) => {
@@ -136,6 +145,7 @@ impl Machine {
         requires rests { T.tells → Rests self.old.desk.book.header self.old.desk.book.known (T.told station.old) }
         ensures cause { FailsAtStation result (T.faults station.old) (T.faults station.new) }
         ensures full { IfFull result (BrokenFull (D.chooser decider.now) (with_begun (standing_of self.old) []) (quieted self.old.scanner)) }
+        ensures memory { IfNoMemory result (BrokenBusy (D.chooser decider.now) (with_begun (standing_of self.old) []) (quieted self.old.scanner)) }
         ensures header { self.new.desk.book.header ≡ self.old.desk.book.header }
         ensures ready { OnOk result (IsReady self.new) }
         ensures heard { self.new.heard ≡ self.old.heard }
@@ -143,6 +153,7 @@ impl Machine {
         ensures calls { T.tells → MakesCalls (T.told station.old) (T.told station.new) }
         ensures step { OnOk result (StepsTo T.tells (HearsBroken (D.chooser decider.now) (with_begun (standing_of self.old) []) (quieted self.old.scanner)) (standing_of self.new) (T.told station.old) (T.told station.new)) }
         ensures leaves { T.tells → LeavesPushing (D.chooser decider.now) (standing_of self.old) [] result (standing_of self.new) (T.told station.old) (T.told station.new) }
+        ensures stays { T.tells → ReadMayStay (T.told station.old) → ReadMayStay (T.told station.new) }
     {
         match self.scanner.quiet() {
             None => Ok(()),
@@ -161,6 +172,7 @@ impl Machine {
         requires rests { T.tells → Rests self.old.desk.book.header self.old.desk.book.known (T.told station.old) }
         ensures cause { FailsAtStation result (T.faults station.old) (T.faults station.new) }
         ensures full { IfFull result (BrokenFull (D.chooser decider.now) (with_begun (standing_of self.old) []) (quieted self.old.scanner)) }
+        ensures memory { IfNoMemory result (BrokenBusy (D.chooser decider.now) (with_begun (standing_of self.old) []) (quieted self.old.scanner)) }
         ensures header { self.new.desk.book.header ≡ self.old.desk.book.header }
         ensures ready { OnOk result (IsReady self.new) }
         ensures heard { self.new.heard ≡ self.old.heard }
@@ -168,6 +180,7 @@ impl Machine {
         ensures calls { T.tells → MakesCalls (T.told station.old) (T.told station.new) }
         ensures step { OnOk result (StepsTo T.tells (HearsSilence (D.chooser decider.now) (standing_of self.old)) (standing_of self.new) (T.told station.old) (T.told station.new)) }
         ensures leaves { T.tells → LeavesPushing (D.chooser decider.now) (standing_of self.old) [] result (standing_of self.new) (T.told station.old) (T.told station.new) }
+        ensures stays { T.tells → ReadMayStay (T.told station.old) → ReadMayStay (T.told station.new) }
     {
         match self.break_off(station, decider) {
             Ok(()) => {
@@ -207,12 +220,14 @@ impl Machine {
         requires rests { T.tells → Rests self.old.desk.book.header self.old.desk.book.known (T.told station.old) }
         ensures cause { FailsAtStation result (T.faults station.old) (T.faults station.new) }
         ensures full { IfFull result (HearsFull (D.chooser decider.now) (standing_of self.old) (heard_in buffer.now heard)) }
+        ensures memory { IfNoMemory result (HearsBusy (D.chooser decider.now) (standing_of self.old) (heard_in buffer.now heard)) }
         ensures header { self.new.desk.book.header ≡ self.old.desk.book.header }
         ensures ready { OnOk result (IsReady self.new) }
         ensures keeps { T.tells → KeepsTalk (T.told station.old) (T.told station.new) }
         ensures calls { T.tells → MakesCalls (T.told station.old) (T.told station.new) }
         ensures step { OnOk result (StepsTo T.tells (HearsUnless (ended_at (session_seen self.old.session)) (D.chooser decider.now) (standing_of self.old) (heard_in buffer.now heard)) (standing_of self.new) (T.told station.old) (T.told station.new)) }
         ensures leaves { T.tells → LeavesPushing (D.chooser decider.now) (standing_of self.old) (bytes_in (heard_in buffer.now heard)) result (standing_of self.new) (T.told station.old) (T.told station.new) }
+        ensures stays { T.tells → ReadMayStay (T.told station.old) → ReadMayStay (T.told station.new) }
     {
         if self.has_ended() {
             return Ok(());

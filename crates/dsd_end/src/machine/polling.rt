@@ -2,13 +2,15 @@
 
 ghost use Rattle.std.specs.Prelude.{◌≡◌, ◌<◌, ◌≤◌, ◌++◌, [], IfErr, List, OnOk, false, is_ok, true};
 ghost use Rattle.dsd_station.specs.Causes.{HasCause};
-ghost use Rattle.dsd_station.specs.Told.{IsSynced, Told};
+ghost use Rattle.dsd_station.specs.Told.{IsSynced, ReadMayStay, Told};
 ghost use Rattle.dsd_journal.specs.Journals.{Rests};
 ghost use Rattle.dsd_journal.specs.declared.entry.Entry.{Entry};
 ghost use Rattle.dex_line.specs.FrameShapes.{Enq};
 ghost use Rattle.dex_line.specs.FrameSpelling.{spelling};
 ghost use Rattle.dex_handshake.specs.SessionSeen.{session_seen};
 ghost use Rattle.own_turn.specs.Desks.{FailsAtStation, IfFull};
+ghost use Rattle.own_turn.specs.IdleTurns.{IfNoMemory};
+ghost use Rattle.dsd_end.specs.BusyTurns.{PollBusy};
 ghost use Rattle.dsd_end.specs.FullTurns.{PollFull};
 ghost use Rattle.dsd_end.specs.EndCalls.{MakesCalls};
 ghost use Rattle.dsd_end.specs.EndFaults.{IsQuietSoFar};
@@ -48,6 +50,7 @@ impl Machine {
         requires rests { T.tells → Rests self.old.desk.book.header self.old.desk.book.known (T.told station.old) }
         ensures cause { FailsAtStation result (T.faults station.old) (T.faults station.new) }
         ensures full { IfFull result (PollFull T.tells (D.chooser decider.now) (standing_of self.old) (T.told station.old) (T.told station.new)) }
+        ensures memory { IfNoMemory result (PollBusy T.tells (D.chooser decider.now) (standing_of self.old) (T.told station.old) (T.told station.new)) }
         ensures header { self.new.desk.book.header ≡ self.old.desk.book.header }
         ensures ready { OnOk result (IsReady self.new) }
         ensures rests { T.tells → OnOk result (Rests self.new.desk.book.header self.new.desk.book.known (T.told station.new)) }
@@ -56,6 +59,7 @@ impl Machine {
         ensures step { OnOk result (Polled T.tells (D.chooser decider.now) (standing_of self.old) (standing_of self.new) (T.told station.old) (T.told station.new)) }
         ensures runs { T.tells → (first : List Entry) (beginning : Told) → Runs (D.chooser decider.now) first beginning (standing_of self.old) (T.told station.old)
             → Runs (D.chooser decider.now) first beginning (with_flags (standing_of self.new) false (failed_by result)) (T.told station.new) }
+        ensures stays { T.tells → ReadMayStay (T.told station.old) → ReadMayStay (T.told station.new) }
     {
         let mut buffer = [0; 64];
         match station.listen(&mut buffer) {
@@ -76,6 +80,7 @@ impl Machine {
         requires rests { T.tells → Rests self.old.desk.book.header self.old.desk.book.known (T.told station.old) }
         ensures cause { FailsAtStation result (T.faults station.old) (T.faults station.new) }
         ensures full { IfFull result (PollFull T.tells (D.chooser decider.now) (with_flags (standing_of self.old) first false) (T.told station.old) (T.told station.new)) }
+        ensures memory { IfNoMemory result (PollBusy T.tells (D.chooser decider.now) (with_flags (standing_of self.old) first false) (T.told station.old) (T.told station.new)) }
         ensures header { self.new.desk.book.header ≡ self.old.desk.book.header }
         ensures ready { OnOk result (IsReady self.new) }
         ensures rests { T.tells → OnOk result (Rests self.new.desk.book.header self.new.desk.book.known (T.told station.new)) }
@@ -84,6 +89,7 @@ impl Machine {
         ensures step { OnOk result (Polled T.tells (D.chooser decider.now) (with_flags (standing_of self.old) first false) (standing_of self.new) (T.told station.old) (T.told station.new)) }
         ensures runs { T.tells → (opening : List Entry) (beginning : Told) → Runs (D.chooser decider.now) opening beginning (with_flags (standing_of self.old) first false) (T.told station.old)
             → Runs (D.chooser decider.now) opening beginning (with_flags (standing_of self.new) false (failed_by result)) (T.told station.new) }
+        ensures stays { T.tells → ReadMayStay (T.told station.old) → ReadMayStay (T.told station.new) }
     {
         if first {
             begin(station)
@@ -98,7 +104,9 @@ fn begin<T: Station>(station: &mut T) -> Result<(), TurnFault>
     requires synced { T.tells → IsSynced (T.told station.old) }
     ensures cause { FailsAtStation result (T.faults station.old) (T.faults station.new) }
     ensures full { IfFull result (λ n. ⊥) }
+    ensures memory { IfNoMemory result ⊥ }
     ensures told { T.tells → Says (spelling Enq ++ []) (is_ok result) (T.told station.old) (T.told station.new) }
+    ensures stays { T.tells → ReadMayStay (T.told station.old) → ReadMayStay (T.told station.new) }
 {
     match say(station, &Some(Frame::Enq)) {
         Ok(()) => Ok(()),

@@ -1,6 +1,6 @@
 //! Gathering due sets.
 
-ghost use Rattle.std.specs.Prelude.{◌≡◌, ◌<◌, ◌≤◌, ◌+◌, ◌++◌, [], ◌∷◌, ℕ, IfOk, IsTrue, List, Some, fold, if◌then◌else◌, length, map};
+ghost use Rattle.std.specs.Prelude.{◌≡◌, ◌<◌, ◌≤◌, ◌+◌, ◌++◌, [], ◌∷◌, ℕ, IfOk, IsOk, IsTrue, OnErr, List, Some, fold, if◌then◌else◌, length, map};
 ghost use Rattle.std.specs.List.{concat, cons_option};
 ghost use Rattle.std.specs.Option.{option_copied, option_map};
 ghost use Rattle.dsd_values.specs.Writing.{number_text};
@@ -9,6 +9,7 @@ ghost use Rattle.dxs_envelope.specs.Sending.{Sent, header_row, trailer_row};
 ghost use Rattle.delivery_book.specs.Lookups.{number_at, numbers_of};
 ghost use Rattle.own_turn.specs.Desks.{desk_of, text_of};
 ghost use Rattle.own_turn.specs.DueSets.{DueSet, asked_of, due_of, due_sets, has_room as has_room_for, is_due as is_set_due, reached, texts_of, with_spoken};
+ghost use Rattle.own_turn.specs.OwnTurn.{gathered};
 ghost use Rattle.own_turn.specs.Staging.{Speaks};
 
 use super::Desk;
@@ -26,29 +27,29 @@ impl Desk {
         requires known { self.old.book.known ≡ self.old.book.entries }
         ensures book { self.new.book ≡ self.old.book }
         ensures exact { IfOk result (λ load. Speaks self.old.book.header (desk_of self.old) (desk_of self.new) (text_of load)) }
+        ensures idle { gathered self.old.book.header (desk_of self.old) ≡ [] → IsOk result }
     {
-        if self.turns >= MOST_CONTROL_NUMBER {
-            return Err(Memory);
-        }
-        let control = self.turns + 1;
-        match self.gather(control) {
-            Ok(sets) => self.speak_sets(&sets, control),
+        match self.gather(u64::from(self.turns) + 1) {
+            Ok(sets) => self.speak_sets(&sets),
             Err(_) => Err(Memory),
         }
     }
 
     /// The transmission of these sets, which are spoken then, or nothing where there are none.
-    fn speak_sets(&mut self, sets: &Gathered, control: u32) -> Result<Option<Outgoing>, Memory>
+    fn speak_sets(&mut self, sets: &Gathered) -> Result<Option<Outgoing>, Memory>
         requires known { self.old.book.known ≡ self.old.book.entries }
-        requires high { control ≤ MOST_CONTROL_NUMBER }
-        requires next { control ≡ self.old.turns + 1 }
-        requires sets { sets.now ≡ reached self.old.book.header control [] (due_sets self.old.book.known self.old.asked) }
+        requires sets { sets.now ≡ gathered self.old.book.header (desk_of self.old) }
         ensures book { self.new.book ≡ self.old.book }
         ensures exact { IfOk result (λ load. Speaks self.old.book.header (desk_of self.old) (desk_of self.new) (text_of load)) }
+        ensures idle { sets.now ≡ [] → IsOk result }
     {
         if sets.len() == 0 {
             return Ok(None);
         }
+        if self.turns >= MOST_CONTROL_NUMBER {
+            return Err(Memory);
+        }
+        let control = self.turns + 1;
         match self.write(sets, control) {
             Ok(load) => self.note_spoken(sets, control, load),
             Err(_) => Err(Memory),
@@ -96,8 +97,9 @@ impl Desk {
     }
 
     /// The due sets in the order of their deliveries, as far as a transmission with this control number reaches.
-    fn gather(&self, control: u32) -> Result<Gathered, Memory>
-        ensures { IfOk result (λ sets. sets ≡ reached self.now.book.header control [] (due_sets self.now.book.known self.now.asked)) }
+    fn gather(&self, control: u64) -> Result<Gathered, Memory>
+        ensures sets { IfOk result (λ sets. sets ≡ reached self.now.book.header control [] (due_sets self.now.book.known self.now.asked)) }
+        ensures some { OnErr result (reached self.now.book.header control [] (due_sets self.now.book.known self.now.asked) ≡ [] → ⊥) }
     {
         let mut gathered = Gathered::new(self.alloc);
         for index in 0..self.book.deliveries() {
@@ -111,9 +113,10 @@ impl Desk {
     }
 
     /// Gathers the last signed set of a delivery, where it is due and still has room. It answers false where it has none.
-    fn gather_at(&self, gathered: &mut Gathered, control: u32, index: usize) -> Result<bool, Memory>
+    fn gather_at(&self, gathered: &mut Gathered, control: u64, index: usize) -> Result<bool, Memory>
         requires { index < length (numbers_of self.now.book.known) }
-        ensures { IfOk result (λ goes_on. (rest : List DueSet) → reached self.now.book.header control gathered.old (cons_option (due_of self.now.book.known self.now.asked (number_at self.now.book.known index)) rest)
+        ensures some { OnErr result ((rest : List DueSet) → reached self.now.book.header control gathered.old (cons_option (due_of self.now.book.known self.now.asked (number_at self.now.book.known index)) rest) ≡ [] → ⊥) }
+        ensures goes_on { IfOk result (λ goes_on. (rest : List DueSet) → reached self.now.book.header control gathered.old (cons_option (due_of self.now.book.known self.now.asked (number_at self.now.book.known index)) rest)
             ≡ (if goes_on then reached self.now.book.header control gathered.new rest else gathered.new)) }
     {
         match self.due(index) {
@@ -126,11 +129,12 @@ impl Desk {
     fn gather_set(
         &self,
         gathered: &mut Gathered,
-        control: u32,
+        control: u64,
         number: &DeliveryNumber,
         text: &SetText,
     ) -> Result<bool, Memory>
-        ensures { IfOk result (λ goes_on. (rest : List DueSet) → reached self.now.book.header control gathered.old ((record { number = number.now; text = text.now }) ∷ rest)
+        ensures some { OnErr result ((rest : List DueSet) → reached self.now.book.header control gathered.old ((record { number = number.now; text = text.now }) ∷ rest) ≡ [] → ⊥) }
+        ensures goes_on { IfOk result (λ goes_on. (rest : List DueSet) → reached self.now.book.header control gathered.old ((record { number = number.now; text = text.now }) ∷ rest)
             ≡ (if goes_on then reached self.now.book.header control gathered.new rest else gathered.new)) }
     {
         if !self.has_room(gathered, control, text) {
@@ -143,7 +147,7 @@ impl Desk {
     }
 
     /// Whether the transmission of the gathered sets and this one is not too long.
-    fn has_room(&self, gathered: &Gathered, control: u32, text: &SetText) -> bool
+    fn has_room(&self, gathered: &Gathered, control: u64, text: &SetText) -> bool
         ensures value { (number : List ℕ) → result ≡ has_room_for self.now.book.header control (gathered.now ++ (record { number = number; text = text.now }) ∷ []) }
         ensures room { IsTrue result → length (concat (texts_of gathered.now)) + length text.now ≤ TRANSMISSION_BYTES }
     {
@@ -152,13 +156,13 @@ impl Desk {
     }
 
     /// How many bytes the transmission of so many sets has beside them.
-    fn envelope(&self, control: u32, sets: usize) -> usize
+    fn envelope(&self, control: u64, sets: usize) -> usize
         ensures value { result ≡ length (line_of (header_row self.now.book.header.own self.now.book.header.peer control)) + length (line_of (trailer_row control sets)) }
         ensures small { result ≤ 120 }
     {
         let journal = self.book.journal();
         let ids = journal.own().get().len() + journal.peer().get().len();
-        ENVELOPE_BYTES + ids + 2 * digits(u64::from(control)) + digits(sets as u64)
+        ENVELOPE_BYTES + ids + 2 * digits(control) + digits(sets as u64)
     }
 
     /// The last signed set of a delivery, where it is due.

@@ -1,6 +1,6 @@
 //! Answering deliveries, and proposing new ones.
 
-ghost use Rattle.std.specs.Prelude.{◌≡◌, ◌<◌, IfErr, IfOk, OnOk, Some, false, length, slice_get, true};
+ghost use Rattle.std.specs.Prelude.{◌≡◌, ◌<◌, [], IfErr, IfOk, IsOk, OnOk, Some, false, length, slice_get, true};
 ghost use Rattle.segments.specs.SoundLines.{AreSoundLines};
 ghost use Rattle.base_record_894.specs.BaseRecord.{BaseRecord};
 ghost use Rattle.dsd_record.specs.Choices.{IsSoundChoice};
@@ -11,6 +11,7 @@ ghost use Rattle.delivery_book.specs.Lookups.{awaits_us as is_ours_to_answer, nu
 ghost use Rattle.delivery_book.specs.Signing.{Legal, next_control};
 ghost use Rattle.delivery_book.specs.Standing.{IsNew};
 ghost use Rattle.own_turn.specs.DueSets.{with_signed};
+ghost use Rattle.own_turn.specs.IdleTurns.{AreKnown};
 ghost use Rattle.own_turn.specs.NextEntry.{AddsNext, AnswersNext, ProposesNext};
 ghost use Rattle.own_turn.specs.OwnTurn.{Answers, AnswersEach, Proposes, ProposesEach, awaiting as awaiting_us};
 ghost use Rattle.own_turn.specs.Staging.{IsChoice, IsStaging, KeepsJournal, ProposesDraft, SignsChoice, SignsSome, StagesTo};
@@ -27,6 +28,7 @@ impl Desk {
     pub(super) fn answer_each<D: Decider>(&mut self, decider: &D) -> Result<(), StageFault>
         requires staging { IsStaging self.old.book }
         ensures journal { KeepsJournal self.old.book self.new.book }
+        ensures idle { awaiting_us self.old.book.known ≡ [] → IsOk result }
         ensures exact { StagesTo result (AnswersEach self.old.book.header.role (D.chooser decider.now)) (AnswersNext self.old.book.header.role (D.chooser decider.now)) self.old self.new }
     {
         let Ok(numbers) = self.awaiting() else {
@@ -40,7 +42,8 @@ impl Desk {
 
     /// The numbers of the deliveries that await this end.
     fn awaiting(&self) -> Result<Vec<DeliveryNumber>, Memory>
-        ensures { IfOk result (λ numbers. numbers.items ≡ awaiting_us self.now.book.known) }
+        ensures numbers { IfOk result (λ numbers. numbers.items ≡ awaiting_us self.now.book.known) }
+        ensures idle { awaiting_us self.now.book.known ≡ [] → IsOk result }
     {
         let mut numbers = Vec::new(self.alloc);
         for index in 0..self.book.deliveries() {
@@ -160,6 +163,7 @@ impl Desk {
     pub(super) fn propose_each<D: Decider>(&mut self, decider: &D) -> Result<(), StageFault>
         requires staging { IsStaging self.old.book }
         ensures journal { KeepsJournal self.old.book self.new.book }
+        ensures idle { AreKnown (D.chooser decider.now).drafts self.old.book.known → IsOk result }
         ensures exact { StagesTo result (ProposesEach self.old.book.header.role (D.chooser decider.now)) (ProposesNext self.old.book.header.role (D.chooser decider.now)) self.old self.new }
     {
         for index in 0..decider.drafts() {
@@ -176,6 +180,7 @@ impl Desk {
         requires staging { IsStaging self.old.book }
         requires within { index < length (D.chooser decider.now).drafts }
         ensures journal { KeepsJournal self.old.book self.new.book }
+        ensures idle { (draft : BaseRecord) → slice_get (D.chooser decider.now).drafts index ≡ Some draft → (IsNew draft.number (deeds_of self.old.book.known) → ⊥) → IsOk result }
         ensures exact { (draft : BaseRecord) → slice_get (D.chooser decider.now).drafts index ≡ Some draft
             → StagesTo result (Proposes self.old.book.header.role (D.chooser decider.now) draft) (AddsNext (Proposes self.old.book.header.role (D.chooser decider.now) draft)) self.old self.new }
     {
@@ -189,6 +194,7 @@ impl Desk {
     fn propose(&mut self, draft: &Base) -> Result<(), StageFault>
         requires staging { IsStaging self.old.book }
         ensures journal { KeepsJournal self.old.book self.new.book }
+        ensures idle { (IsNew draft.now.number (deeds_of self.old.book.known) → ⊥) → IsOk result }
         ensures exact { StagesTo result (ProposesDraft self.old.book.header.role draft.now) (AddsNext (ProposesDraft self.old.book.header.role draft.now)) self.old self.new }
     {
         match self.book.find(draft.number()) {

@@ -1,11 +1,11 @@
 //! Taking the sets that were heard.
 
-ghost use Rattle.std.specs.Prelude.{◌≡◌, ◌+◌, IfErr, OnOk, Some};
+ghost use Rattle.std.specs.Prelude.{◌≡◌, ◌+◌, ◌<◌, ◌^◌, [], IfErr, IsOk, OnOk, Some};
 ghost use Rattle.dsd_record.specs.ReadSets.{set_in};
 ghost use Rattle.dsd_journal.specs.declared.adding_fault.StageFault.TheVariants.{Memory as NoMemory};
 ghost use Rattle.own_turn.specs.DueSets.{with_known_set};
 ghost use Rattle.own_turn.specs.NextEntry.{AddsNext, TakesNext};
-ghost use Rattle.own_turn.specs.OwnTurn.{Takes, TakesSet};
+ghost use Rattle.own_turn.specs.OwnTurn.{Takes, TakesSet, sets_lent};
 ghost use Rattle.own_turn.specs.Staging.{IsStaging, KeepsJournal, PassesOver, StagesTo, TakesTold, TakesToldNext};
 
 use super::Desk;
@@ -20,6 +20,7 @@ impl Desk {
     pub(super) fn take_text(&mut self, text: &[u8]) -> Result<(), StageFault>
         requires staging { IsStaging self.old.book }
         ensures journal { KeepsJournal self.old.book self.new.book }
+        ensures idle { sets_lent text.now ≡ [] → self.old.refused + 1 < 2 ^ 64 → IsOk result }
         ensures exact { StagesTo result (Takes self.old.book.header.role text.now) (TakesNext self.old.book.header.role text.now) self.old self.new }
     {
         if text.is_empty() {
@@ -33,6 +34,7 @@ impl Desk {
     fn take_told(&mut self, sets: &mut Sets<'_>) -> Result<(), StageFault>
         requires staging { IsStaging self.old.book }
         ensures journal { KeepsJournal self.old.book self.new.book }
+        ensures idle { sets.old.sets ≡ [] → self.old.refused + 1 < 2 ^ 64 → IsOk result }
         ensures exact { StagesTo result (TakesTold self.old.book.header.role sets.old) (TakesToldNext self.old.book.header.role sets.old) self.old self.new }
     {
         loop {
@@ -107,6 +109,7 @@ impl Desk {
     /// Counts a refused set. Where the count would not fit, there is no memory.
     fn refuse(&mut self) -> Result<(), StageFault>
         ensures ok { OnOk result (self.new ≡ record self.old { refused = self.old.refused + 1 }) }
+        ensures room { self.old.refused + 1 < 2 ^ 64 → IsOk result }
         ensures err { IfErr result (λ fault. fault ≡ NoMemory) }
         ensures book { self.new.book ≡ self.old.book }
     {

@@ -1,13 +1,15 @@
 //! The parts of a turn, and what makes sure of them.
 
-ghost use Rattle.std.specs.Prelude.{◌≡◌, ◌++◌, [], IfOk, IsTrue, OnErr, OnOk};
+ghost use Rattle.std.specs.Prelude.{◌≡◌, ◌++◌, [], IfOk, IsOk, IsTrue, OnErr, OnOk};
 ghost use Rattle.dsd_station.specs.Causes.{HasCause};
 ghost use Rattle.dsd_station.specs.Told.{ReadMayStay};
 ghost use Rattle.dsd_journal.specs.Journals.{Rests};
 ghost use Rattle.dsd_journal.specs.Steps.{Flushes};
 ghost use Rattle.delivery_book.specs.Books.{flushed_book, stopped_book};
 ghost use Rattle.own_turn.specs.Desks.{FailsAtStation, IfFull, desk_of, text_of};
+ghost use Rattle.own_turn.specs.IdleTurns.{AddsNothing, IfNoMemory};
 ghost use Rattle.own_turn.specs.NextEntry.{TurnAddsNext};
+ghost use Rattle.own_turn.specs.OwnTurn.{gathered};
 ghost use Rattle.own_turn.specs.Staging.{GivesUp, IsFlushed, IsStaged, IsStaging, KeepsJournal, Speaks, StagesTo};
 
 use super::Desk;
@@ -22,6 +24,7 @@ impl Desk {
     pub(super) fn stage<D: Decider>(&mut self, decider: &D, text: &[u8]) -> Result<(), StageFault>
         requires staging { IsStaging self.old.book }
         ensures journal { KeepsJournal self.old.book self.new.book }
+        ensures idle { AddsNothing (D.chooser decider.now) (desk_of self.old) text.now → IsOk result }
         ensures exact { StagesTo result (IsStaged self.old.book.header.role (D.chooser decider.now) text.now) (TurnAddsNext self.old.book.header.role (D.chooser decider.now) text.now) self.old self.new }
     {
         self.take_text(text)?;
@@ -43,6 +46,8 @@ impl Desk {
         ensures exact { IfOk result (λ load. Speaks self.old.book.header (desk_of self.old) (desk_of self.new) (text_of load)) }
         ensures book { OnOk result (self.new.book ≡ flushed_book self.old.book) }
         ensures never_full { IfFull result (λ _. ⊥) }
+        ensures memory { IfNoMemory result (gathered self.old.book.header (desk_of self.old) ≡ [] → ⊥) }
+        ensures left { T.tells → IfNoMemory result (Rests self.new.book.header self.new.book.entries (T.told station.new)) }
         ensures rests { T.tells → OnOk result (Rests self.new.book.header self.new.book.entries (T.told station.new)) }
         ensures told { T.tells → IsFlushed self.old.book.header self.old.book.entries self.old.book.staged (T.told station.old) (T.told station.new) }
         ensures stays { T.tells → ReadMayStay (T.told station.new) }

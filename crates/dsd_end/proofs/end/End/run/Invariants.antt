@@ -1,5 +1,5 @@
 use Rattle.std.proofs.Common.{◌≡◌, List, false}
-use Rattle.dsd_station.specs.Told.{Told}
+use Rattle.dsd_station.specs.Told.{ReadMayStay, Told}
 use Rattle.dsd_journal.specs.Journals.{Rests}
 use Rattle.dsd_journal.specs.declared.entry.Entry.{Entry}
 use Rattle.dsd_end.specs.EndCalls.{MakesCalls}
@@ -18,6 +18,7 @@ invariant-loop-end g l = record {
   failing : l.self.core.standing.failed ≡ l.fn.self.core.standing.failed;
   talk : g.T.Station.tells → HearsMore (g.T.Station.told l.fn.station) (g.T.Station.told l.station);
   calls : g.T.Station.tells → MakesCalls (g.T.Station.told l.fn.station) (g.T.Station.told l.station);
+  stays : g.T.Station.tells → ReadMayStay (g.T.Station.told l.fn.station) → ReadMayStay (g.T.Station.told l.station);
   steps : PolledSoFar g.T.Station.tells (g.D.Decider.chooser l.fn.self.decider) l.fn.self.core.standing l.self.core.standing (g.T.Station.told l.fn.station) (g.T.Station.told l.station);
   runs : g.T.Station.tells → (first : List Entry) (beginning : Told) → Runs (g.D.Decider.chooser l.fn.self.decider) first beginning l.fn.self.core.standing (g.T.Station.told l.fn.station)
       → Runs (g.D.Decider.chooser l.fn.self.decider) first beginning l.self.core.standing (g.T.Station.told l.station);

@@ -6,6 +6,9 @@ use Rattle.dsd_end.specs.MachineSeen.{standing_of}
 use Rattle.dsd_end.specs.FullTurns.{PollFull}
 use Rattle.dsd_end.proofs.Filling.{poll_full}
 use Rattle.dsd_end.proofs.Waiting.{polled_costs, polled_quiet}
+use Rattle.std.proofs.Common.{◌<◌}
+use Rattle.dsd_end.specs.Patience.{patience}
+use Rattle.dsd_end.proofs.Waiting.{some_patience}
 use Rattle.dsd_end.proofs.end_core.EndCore.poll.Goals as goal
 
 pub invariant_of-self-in-Ok : goal.invariant_of-self-in-Ok
@@ -47,3 +50,7 @@ returns-in-Err-clause-full g c =
     let at = with_flags (standing_of c.self.inside.machine) c.self.inside.first false in
     poll_full (Unit {0}) (Unit {0}) (PollFull T ch at old new) (PollFull T ch c.args.self.now.standing old new) c.in-Err.fault c.of_turn.result c.of_turn.ensures c.in-Err.ensures.full
     (λ n k. subst (λ (v : EndView). PollFull T ch v.standing old new n) c.self.view_is (subst (λ (b : Bool). PollFull T ch (with_flags (standing_of c.self.inside.machine) c.self.inside.first b) old new n) (sym c.if-self.false) k))
+
+pub returns-then-self-2-clause-patient : goal.returns-then-self-2-clause-patient
+returns-then-self-2-clause-patient g c =
+    subst (λ (v : EndView). 0 < patience v.standing) c.self.view_is (some_patience (with_flags (standing_of c.self.inside.machine) c.self.inside.first c.self.inside.failed) (c.self.invariant.quiet c.if-self.false))

@@ -19,6 +19,9 @@ use Rattle.dsd_end.proofs.MachineSteps.{act_step, always, rests_as, turn_ready}
 use Rattle.dsd_end.proofs.RunsLeft.{stops_still}
 use Rattle.dsd_end.proofs.RunsThrough.{act_stops, turn_stops}
 use Rattle.dsd_end.proofs.StepsGoing.{acts_not, load_is, turned_spoken}
+use Rattle.own_turn.specs.IdleTurns.{IsIdle}
+use Rattle.dsd_end.specs.BusyTurns.{TurnBusy}
+use Rattle.dsd_end.proofs.BusyComing.{memory_as, turn_busy}
 use Rattle.dsd_end.proofs.machine.Machine.act.Goals as goal
 
 pub returns-in_default-clause-step : goal.returns-in_default-clause-step
@@ -86,3 +89,9 @@ returns-in-Err-clause-full g c =
     let s = standing_of c.args.self.now in
     full_as (Option Outgoing) (Unit {0}) (IsTooLong (TurnAddsNext s.header.role ch c.in-Some.text.now s.desk) c.turn-2.new.self.book.known) (TurnFull ch s) c.in-Err.fault c.in-Err.ensures.full
     (λ n k. turn_full ch s c.in-Some.text.now c.turn-2.new.self.book.known n c.in-Some.ensures k)
+
+pub returns-in-Err-clause-memory : goal.returns-in-Err-clause-memory
+returns-in-Err-clause-memory g c =
+    let ch = g.D.Decider.chooser c.args.decider.now in
+    let s = standing_of c.args.self.now in
+    memory_as (Option Outgoing) (Unit {0}) (IsIdle s.header ch s.desk c.in-Some.text.now → ⊥) (TurnBusy ch s) c.in-Err.fault c.in-Err.ensures.memory (turn_busy ch s c.in-Some.text.now c.in-Some.ensures)

@@ -6,6 +6,8 @@ use Rattle.dsd_end.specs.FullTurns.{BytesFull}
 use Rattle.dsd_end.proofs.Filling.{full_as}
 use Rattle.dsd_end.proofs.CallsMade.{calls_none, calls_then}
 use Rattle.dsd_end.proofs.PiecesThrough.{HeardOn, all_steps, ended_none, ended_steps, ended_takes, heard_none, heard_push, heard_stops}
+use Rattle.dsd_end.specs.BusyTurns.{BytesBusy}
+use Rattle.dsd_end.proofs.BusyComing.{behind_busy, memory_as}
 use Rattle.dsd_end.proofs.machine.Machine.hear_bytes.Goals as goal
 
 pub loop-rest-init : goal.loop-rest-init
@@ -15,6 +17,7 @@ loop-rest-init g c = record {
   counted = refl;
   faults = refl;
   calls = λ tells. calls_none (g.T.Station.told c.args.station.now);
+  busy = λ busy. busy;
   heard = heard_none g.T.Station.tells (g.D.Decider.chooser c.args.decider.now) (standing_of c.args.self.now) c.args.bytes.now (g.T.Station.told c.args.station.now) c.requires.rests;
 }
 
@@ -71,6 +74,8 @@ loop-rest-preserved g c =
       counted = c.hear_front.ensures.heard ∙ c.loop-rest.invariant.counted;
       faults = c.in-Ok.ensures.cause ∙ c.loop-rest.invariant.faults;
       calls = λ tells. calls_then old mid new (c.loop-rest.invariant.calls tells) (c.hear_front.ensures.calls tells);
+      busy = λ busy. c.loop-rest.invariant.busy
+          (behind_busy ch at to rest c.in-Ok.count c.in-Ok.ensures.step.done c.in-Ok.ensures.step.comes c.in-Ok.ensures.step.step (subst (λ (l : List ℕ). BytesBusy ch to l) c.behind-rest.ensures busy));
       heard = subst (λ (l : List ℕ). HeardOn T ch s c.args.bytes.now l to old new) (sym c.behind-rest.ensures)
           (heard_push T ch s c.args.bytes.now old rest at mid new c.loop-rest.invariant.heard c.in-Ok.count to c.hear_front.ensures.header c.in-Ok.ensures.step c.hear_front.ensures.keeps c.in-Ok.ensures.leaves);
     }
@@ -93,3 +98,8 @@ pub returns-in-Err-clause-full : goal.returns-in-Err-clause-full
 returns-in-Err-clause-full g c =
     let ch = g.D.Decider.chooser c.args.decider.now in
     full_as ℕ (Unit {0}) (BytesFull ch (standing_of c.loop-rest.self) c.loop-rest.rest.now) (BytesFull ch (standing_of c.args.self.now) c.args.bytes.now) c.in-Err.fault c.in-Err.ensures.full c.loop-rest.invariant.heard.full
+
+pub returns-in-Err-clause-memory : goal.returns-in-Err-clause-memory
+returns-in-Err-clause-memory g c =
+    let ch = g.D.Decider.chooser c.args.decider.now in
+    memory_as ℕ (Unit {0}) (BytesBusy ch (standing_of c.loop-rest.self) c.loop-rest.rest.now) (BytesBusy ch (standing_of c.args.self.now) c.args.bytes.now) c.in-Err.fault c.in-Err.ensures.memory c.loop-rest.invariant.busy

@@ -10,6 +10,8 @@ use Rattle.dsd_end.proofs.FrontsHeard.{front_full}
 use Rattle.dsd_end.proofs.CallsMade.{calls_none}
 use Rattle.dsd_end.proofs.MachineSteps.{begins_step, ends_step, scanned_none, scanned_some}
 use Rattle.dsd_end.proofs.PiecesThrough.{begins_leaves, frame_leaves, frame_takes}
+use Rattle.dsd_end.specs.BusyTurns.{BytesBusy, FrameBusy}
+use Rattle.dsd_end.proofs.BusyComing.{front_busy, memory_as}
 use Rattle.dsd_end.proofs.machine.Machine.hear_front.Goals as goal
 
 pub returns-in_default-clause-step : goal.returns-in_default-clause-step
@@ -62,3 +64,13 @@ returns-in-Err-clause-full g c =
     (λ n k. front_full ch s c.args.bytes.now c.hear-count.result.0 n (frame_seen c.in-Some.frame)
     (scanned_some _ c.hear-count.new.self c.hear-count.result.1 c.in-Some.frame c.hear-count.ensures.heard c.in-Some.is none)
     (subst (λ (l : List ℕ). FrameFull ch (with_begun s l) (frame_seen c.in-Some.frame) n) none k))
+
+pub returns-in-Err-clause-memory : goal.returns-in-Err-clause-memory
+returns-in-Err-clause-memory g c =
+    let ch = g.D.Decider.chooser c.args.decider.now in
+    let s = standing_of c.args.self.now in
+    let none : c.hear-count.new.self ≡ [] = c.hear-count.ensures.left (subst (λ (o : Option Frame). IsSome o) (sym c.in-Some.is) refl) in
+    memory_as (Unit {0}) ℕ (FrameBusy ch (with_begun s c.hear-count.new.self) (frame_seen c.in-Some.frame)) (BytesBusy ch s c.args.bytes.now) c.in-Err.fault c.in-Err.ensures.memory
+    (λ k. front_busy ch s c.args.bytes.now c.hear-count.result.0 (frame_seen c.in-Some.frame)
+    (scanned_some _ c.hear-count.new.self c.hear-count.result.1 c.in-Some.frame c.hear-count.ensures.heard c.in-Some.is none)
+    (subst (λ (l : List ℕ). FrameBusy ch (with_begun s l) (frame_seen c.in-Some.frame)) none k))

@@ -1,5 +1,7 @@
 use Rattle.std.proofs.Common.{◌≡◌, Some, sym, subst, ◌∙◌}
 use Rattle.base_record_894.specs.BaseRecord.{BaseRecord}
+use Rattle.delivery_book.specs.Deeds.{deeds_of}
+use Rattle.delivery_book.specs.Standing.{IsNew}
 use Rattle.own_turn.specs.NextEntry.{AddsNext}
 use Rattle.own_turn.specs.OwnTurn.{Proposes}
 use Rattle.own_turn.specs.Staging.{StagesTo}
@@ -16,3 +18,7 @@ returns-clause-exact g c = λ draft e.
     let here = c.in-Some.draft.now in
     subst (λ (d : BaseRecord). StagesTo c.propose.result (Proposes role chooser d) (AddsNext (Proposes role chooser d)) c.args.self.now c.propose.new.self) (same_draft here draft (c.in-Some.ensures.value ∙ e))
     (proposes_so role chooser here c.propose.result c.args.self.now c.propose.new.self (among_at chooser.drafts c.args.index here (sym c.in-Some.ensures.value)) c.propose.ensures.exact)
+
+pub returns-clause-idle : goal.returns-clause-idle
+returns-clause-idle g c = λ draft e known.
+    c.propose.ensures.idle (subst (λ (d : BaseRecord). IsNew d.number (deeds_of c.args.self.now.book.known) → ⊥) (sym (same_draft c.in-Some.draft.now draft (c.in-Some.ensures.value ∙ e))) known)
