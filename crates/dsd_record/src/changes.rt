@@ -8,6 +8,7 @@ ghost use Rattle.dsd_record.specs.LineChanges.{changed, numbered};
 use dsd_values::{DsdNumber, Line, Lines, Memory};
 use indexmap::IndexMap;
 use std::alloc::Global;
+use std::rc::Rc;
 
 /// The lines with each change in the place of the line with its number, or last.
 pub(crate) fn changed_lines(
@@ -26,6 +27,20 @@ pub(crate) fn changed_lines(
     put_lines(alloc, &mut after, lines.values().as_slice())?;
     put_lines(alloc, &mut after, changes)?;
     Ok(after)
+}
+
+/// The same, for versions that share them.
+pub(crate) fn shared_lines(
+    alloc: Global,
+    lines: &IndexMap<DsdNumber, Line>,
+    changes: &Lines,
+) -> Result<Rc<IndexMap<DsdNumber, Line>>, Memory>
+    requires { AreApart (values lines.now) }
+    ensures under { IfOk result (λ after. after.value.entries ≡ numbered (changed (values lines.now) changes.now)) }
+    ensures list { IfOk result (λ after. values after.value ≡ changed (values lines.now) changes.now) }
+{
+    let after = changed_lines(alloc, lines, changes)?;
+    Ok(Rc::new(alloc, after)?)
 }
 
 /// Puts copies of these lines among those of the map: each in the place of the one with its number, or last.

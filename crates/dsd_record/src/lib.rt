@@ -28,6 +28,3 @@ pub use version_laws::{
     answers_at_their_price_apply, answers_without_fault_apply, chosen_lines_can_be_stated,
     levels_of_a_chain,
 };
-
-#[cfg(test)]
-mod tests;

@@ -12,22 +12,25 @@ ghost use Rattle.dsd_record.specs.Chain.{chain_from, version_of};
 ghost use Rattle.dsd_record.specs.LineChanges.{line_under, numbered};
 ghost use Rattle.dsd_record.specs.Version.{IsVersion};
 
-use crate::changes::changed_lines;
+use crate::changes::shared_lines;
 use base_record_894::Base;
 use dsd_pricing::Totals;
-use dsd_values::{Check, Day, DeliveryNumber, DsdNumber, Extras, Flag, Level, Line, Lines, Memory};
+use dsd_values::{Check, Day, DeliveryNumber, DsdNumber, Extras, Flag, Level, Line, Memory};
 use indexmap::IndexMap;
 use std::alloc::Global;
 use std::marker::Model;
+use std::rc::Rc;
 
 /// One version of a delivery: the record as it stands after its base and the adjustments so far.
+///
+/// Copies of a version share its lines and its extras.
 #[derive(Debug, Drop)]
 pub struct DsdRecord {
     flag: Flag,
     number: DeliveryNumber,
     day: Day,
-    lines: IndexMap<DsdNumber, Line>,
-    extras: Extras,
+    lines: Rc<IndexMap<DsdNumber, Line>>,
+    extras: Rc<Extras>,
     totals: Totals,
     level: Level,
     check: Check,
@@ -41,9 +44,9 @@ impl Model for DsdRecord {
 
     ghost Value = { Version };
 
-    ghost view = { λ r. record { flag = r.flag; number = r.number; day = r.day; lines = values r.lines; extras = r.extras; totals = r.totals; level = r.level; check = r.check } };
+    ghost view = { λ r. record { flag = r.flag; number = r.number; day = r.day; lines = values r.lines.value; extras = r.extras.value; totals = r.totals; level = r.level; check = r.check } };
 
-    ghost invariant = { λ r. (r.lines.entries ≡ numbered (values r.lines)) × IsVersion (record { flag = r.flag; number = r.number; day = r.day; lines = values r.lines; extras = r.extras; totals = r.totals; level = r.level; check = r.check }) };
+    ghost invariant = { λ r. (r.lines.value.entries ≡ numbered (values r.lines.value)) × IsVersion (record { flag = r.flag; number = r.number; day = r.day; lines = values r.lines.value; extras = r.extras.value; totals = r.totals; level = r.level; check = r.check }) };
 }
 
 impl DsdRecord {
@@ -56,8 +59,8 @@ impl DsdRecord {
             flag: base.flag(),
             number: base.number().copy(),
             day: base.day(),
-            lines: changed_lines(alloc, &none, base.lines())?,
-            extras: base.extras().try_copy(alloc)?,
+            lines: shared_lines(alloc, &none, base.lines())?,
+            extras: Rc::new(alloc, base.extras().try_copy(alloc)?)?,
             totals: stated(base),
             level: Level::new(0),
             check,
@@ -88,7 +91,7 @@ impl DsdRecord {
     pub fn extras(&self) -> &Extras
         ensures { result.now ≡ self.now.extras }
     {
-        &self.extras
+        self.extras.as_ref()
     }
 
     /// What its rows come to.
@@ -119,14 +122,14 @@ impl DsdRecord {
         ensures under { result.now.entries ≡ numbered self.now.lines }
         ensures version { IsVersion self.now }
     {
-        &self.lines
+        self.lines.as_ref()
     }
 
     pub fn line_count(&self) -> usize
         ensures value { result ≡ length self.now.lines }
         ensures few { result ≤ MOST }
     {
-        self.lines.len()
+        self.lines().len()
     }
 
     /// The line at a place, the first at 0.
@@ -134,7 +137,7 @@ impl DsdRecord {
         ensures found { IsSome result ↔ (index < length self.now.lines) }
         ensures value { option_copied result ≡ slice_get self.now.lines index }
     {
-        let (_, line) = self.lines.get_index(index)?;
+        let (_, line) = self.lines().get_index(index)?;
         Some(line)
     }
 
@@ -143,19 +146,19 @@ impl DsdRecord {
         ensures found { IsSome result ↔ IsTrue (has_line dsd self.now.lines) }
         ensures value { option_copied result ≡ line_under dsd self.now.lines }
     {
-        self.lines.get(&dsd)
+        self.lines().get(&dsd)
     }
 
     /// An equal record.
-    pub fn try_copy(&self, alloc: Global) -> Result<DsdRecord, Memory>
+    pub fn try_copy(&self, _alloc: Global) -> Result<DsdRecord, Memory>
         ensures { IfOk result (λ copy. copy ≡ self.now) }
     {
         Ok(DsdRecord {
             flag: self.flag,
             number: self.number.copy(),
             day: self.day,
-            lines: changed_lines(alloc, &self.lines, &Lines::new(alloc))?,
-            extras: self.extras.try_copy(alloc)?,
+            lines: self.lines.clone()?,
+            extras: self.extras.clone()?,
             totals: self.totals,
             level: self.level,
             check: self.check,

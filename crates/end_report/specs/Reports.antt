@@ -18,6 +18,8 @@ use Rattle.dex_handshake.specs.declared.session_end.SessionEnd.TheVariants as se
 use Rattle.end_report.specs.Lines.{both, line}
 use Rattle.end_report.specs.declared.ending.Ending.{Ending}
 use Rattle.end_report.specs.declared.ending.Ending.TheVariants as endings
+use Rattle.end_report.specs.declared.ending.LastRun.{LastRun}
+use Rattle.end_report.specs.declared.ending.LastRun.TheVariants as runs
 
 -- ---- a line of a delivery
 
@@ -100,6 +102,18 @@ are_drafts_final entries drafts = list_all (λ (draft : BaseRecord). is_some (fi
 abbrev pub are_final : List Entry → List BaseRecord → Bool
 are_final entries drafts = are_numbers_final entries (numbers_of entries) && are_drafts_final entries drafts
 
+-- each of these deliveries is final at both ends, of which these are the entries
+abbrev pub are_numbers_final_at_both : List Entry → List Entry → List (List ℕ) → Bool
+are_numbers_final_at_both one other numbers = are_numbers_final one numbers && are_numbers_final other numbers
+
+abbrev pub are_drafts_final_at_both : List Entry → List Entry → List BaseRecord → Bool
+are_drafts_final_at_both one other drafts = are_drafts_final one drafts && are_drafts_final other drafts
+
+-- each delivery of either end's entries and each draft is final at both
+abbrev pub are_final_at_both : List Entry → List Entry → List BaseRecord → Bool
+are_final_at_both one other drafts =
+    are_numbers_final_at_both one other (numbers_of one) && are_numbers_final_at_both one other (numbers_of other) && are_drafts_final_at_both one other drafts
+
 -- ---- the session
 
 -- sets that were refused, where there are some
@@ -119,10 +133,18 @@ abbrev pub ending_text : Ending → List ℕ
 ending_text (endings.Session end) = session_text end
 ending_text endings.Noise = codes "NOISE"
 
-abbrev pub ending_line : Ending → List ℕ
-ending_line ending = line (both (codes "SESSION") (ending_text ending))
+abbrev pub last_text : LastRun → List ℕ
+last_text runs.Never = codes "NEVER"
+last_text runs.Stopped = codes "STOPPED"
+last_text runs.StationFault = codes "FAULT STATION"
+last_text runs.Full = codes "FULL"
+last_text runs.Running = codes "RUNNING"
+last_text (runs.Ended ending) = ending_text ending
+
+abbrev pub last_line : LastRun → List ℕ
+last_line last = line (both (codes "SESSION") (last_text last))
 
 -- ---- all of it
 
-unfoldable pub report_text : List Entry → List BaseRecord → ℕ → Ending → List ℕ
-report_text entries drafts refused ending = deliveries_text entries ++ unproposed_text entries drafts ++ refused_text refused ++ ending_line ending
+unfoldable pub report_text : List Entry → List BaseRecord → ℕ → LastRun → List ℕ
+report_text entries drafts refused last = deliveries_text entries ++ unproposed_text entries drafts ++ refused_text refused ++ last_line last

@@ -4,6 +4,7 @@ ghost use Rattle.std.specs.Prelude.{◌≡◌, ◌++◌, OnOk};
 ghost use Rattle.std.specs.Fmt.{decimal, signed_decimal};
 ghost use Rattle.end_report.specs.Lines.{line, both};
 
+use itoa::Buffer;
 use std::alloc::{AllocError, Global};
 
 pub fn put(out: &mut Vec<u8>, text: &str) -> Result<(), AllocError>
@@ -18,19 +19,17 @@ pub fn put_bytes(out: &mut Vec<u8>, bytes: &[u8]) -> Result<(), AllocError>
     out.extend_from_slice(bytes)
 }
 
-pub fn put_number(alloc: Global, out: &mut Vec<u8>, number: u64) -> Result<(), AllocError>
+pub fn put_number(_alloc: Global, out: &mut Vec<u8>, number: u64) -> Result<(), AllocError>
     ensures { OnOk result (out.new.items ≡ out.old.items ++ decimal number) }
 {
-    let text = format!(in alloc; "{number}")?;
-    out.extend_from_slice(text.as_bytes())
+    put(out, Buffer::new().format(number))
 }
 
 /// A number that may be below 0.
-pub fn put_signed(alloc: Global, out: &mut Vec<u8>, number: i128) -> Result<(), AllocError>
+pub fn put_signed(_alloc: Global, out: &mut Vec<u8>, number: i128) -> Result<(), AllocError>
     ensures { OnOk result (out.new.items ≡ out.old.items ++ signed_decimal number) }
 {
-    let text = format!(in alloc; "{number}")?;
-    out.extend_from_slice(text.as_bytes())
+    put(out, Buffer::new().format(number))
 }
 
 /// A name and a number.

@@ -3,9 +3,9 @@
 ghost use Rattle.std.specs.Prelude.{◌≡◌, ◌<◌, ◌++◌, OnOk, codes, length};
 ghost use Rattle.delivery_book.specs.Lookups.{number_at, numbers_of, seen_of};
 ghost use Rattle.end_report.specs.Lines.{both, line};
-ghost use Rattle.end_report.specs.Reports.{are_drafts_final, are_final, are_numbers_final, deliveries_text, delivery_text, refused_text, report_text, unproposed_by, unproposed_text};
+ghost use Rattle.end_report.specs.Reports.{are_drafts_final, are_drafts_final_at_both, are_final, are_final_at_both, are_numbers_final, are_numbers_final_at_both, deliveries_text, delivery_text, refused_text, report_text, unproposed_by, unproposed_text};
 
-use crate::ending::{Ending, put_ending};
+use crate::ending::{LastRun, put_last_run};
 use crate::lines::{put, put_bytes, put_count};
 use crate::settled::{put_final, put_open};
 use base_record_894::Base;
@@ -14,7 +14,7 @@ use dsd_record::Decider;
 use dsd_values::DeliveryNumber;
 use std::alloc::{AllocError, Global};
 
-/// Prints all that is printed of an end: its deliveries, the drafts that are not proposed yet, how many sets were refused, and how its session ended.
+/// Prints all that is printed of an end: its deliveries, the drafts that are not proposed yet, how many sets were refused, and how its last run came out.
 #[tactic(auto, unfolding(crate::specs::Reports::report_text))]
 pub fn put_report<D: Decider>(
     alloc: Global,
@@ -22,14 +22,14 @@ pub fn put_report<D: Decider>(
     book: &Book,
     decider: &D,
     refused: u64,
-    ending: Ending,
+    last: LastRun,
 ) -> Result<(), AllocError>
-    ensures { OnOk result (out.new.items ≡ out.old.items ++ report_text book.now.known (D.chooser decider.now).drafts refused ending) }
+    ensures { OnOk result (out.new.items ≡ out.old.items ++ report_text book.now.known (D.chooser decider.now).drafts refused last) }
 {
     put_deliveries(alloc, out, book)?;
     put_unproposed(out, book, decider)?;
     put_refused(alloc, out, refused)?;
-    put_ending(alloc, out, ending)
+    put_last_run(alloc, out, last)
 }
 
 /// Prints the deliveries of a book in the order of their first entries: the final version of each, or the level of its highest proposal.
@@ -110,14 +110,36 @@ pub fn put_refused(alloc: Global, out: &mut Vec<u8>, count: u64) -> Result<(), A
 pub fn are_settled<D: Decider>(book: &Book, decider: &D) -> bool
     ensures { result ≡ are_final book.now.known (D.chooser decider.now).drafts }
 {
-    are_known_settled(book) && are_drafts_settled(book, decider)
+    are_deliveries_settled(book, book) && are_drafts_settled(book, decider)
 }
 
-fn are_known_settled(book: &Book) -> bool
-    ensures { result ≡ are_numbers_final book.now.known (numbers_of book.now.known) }
+/// Whether each delivery of either book and each draft is final in both books.
+pub fn are_settled_at_both<D: Decider>(one: &Book, other: &Book, decider: &D) -> bool
+    ensures { result ≡ are_final_at_both one.now.known other.now.known (D.chooser decider.now).drafts }
 {
-    for index in 0..book.deliveries() {
-        if book.final_of(book.number(index)).is_none() {
+    are_deliveries_settled_at_both(one, other, one)
+        && are_deliveries_settled_at_both(one, other, other)
+        && are_drafts_settled_at_both(one, other, decider)
+}
+
+fn are_deliveries_settled_at_both(one: &Book, other: &Book, named: &Book) -> bool
+    ensures { result ≡ are_numbers_final_at_both one.now.known other.now.known (numbers_of named.now.known) }
+{
+    are_deliveries_settled(one, named) && are_deliveries_settled(other, named)
+}
+
+fn are_drafts_settled_at_both<D: Decider>(one: &Book, other: &Book, decider: &D) -> bool
+    ensures { result ≡ are_drafts_final_at_both one.now.known other.now.known (D.chooser decider.now).drafts }
+{
+    are_drafts_settled(one, decider) && are_drafts_settled(other, decider)
+}
+
+/// Whether each delivery that another book names is final in a book.
+fn are_deliveries_settled(book: &Book, named: &Book) -> bool
+    ensures { result ≡ are_numbers_final book.now.known (numbers_of named.now.known) }
+{
+    for index in 0..named.deliveries() {
+        if book.final_of(named.number(index)).is_none() {
             return false;
         }
     }

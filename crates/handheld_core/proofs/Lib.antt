@@ -4,6 +4,7 @@ mod Rowed
 mod Countered
 mod Chosen
 mod Made
+mod Ended
 pub mod Said
 pub mod Again
 mod Worked

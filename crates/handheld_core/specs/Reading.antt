@@ -134,6 +134,10 @@ with_row stages.Record done open_draft line = if leads line (codes "ITEM") then 
 with_row stages.Item done open_draft line = if leads line (codes "ITEM") then one_item done open_draft line else one_allowance done open_draft line
 with_row stages.Counter done open_draft line = refused line reasons.Line
 
+-- a line that is not the end of the draft
+abbrev pub one_row : List Draft → OpenDraft → LineSeen → Result SoFar DraftFault
+one_row done open_draft line = if leads line (codes "COUNTER") then with_counter done open_draft line else with_row open_draft.stage done open_draft line
+
 abbrev pub in_rows : List Draft → OpenDraft → LineSeen → Result SoFar DraftFault
 in_rows done open_draft line =
     if leads line (codes "COUNTER") then with_counter done open_draft line

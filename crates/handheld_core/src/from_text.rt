@@ -34,7 +34,7 @@ impl Drafts {
         let mut lines = PlainLines::new(text);
         let mut so_far = DraftsSoFar::new(alloc);
         while let Some(line) = lines.next() {
-            so_far = so_far.take_line(alloc, &line)?;
+            so_far.take(alloc, &line)?;
         }
         so_far.finish(lines.end())
     }

@@ -1,10 +1,12 @@
 //! Reading drafts line by line.
 
-ghost use Rattle.std.specs.Prelude.{◌≡◌, ◌<◌, [], ◌∷◌, ◌++◌, Ok, false, length};
+ghost use Rattle.std.specs.Prelude.{◌≡◌, ◌<◌, [], ◌∷◌, ◌++◌, List, Ok, false, length};
 ghost use Rattle.dsd_values.specs.Answers.{UnlessMemory};
 ghost use Rattle.handheld_core.specs.DraftTexts.{is_known};
 ghost use Rattle.handheld_core.specs.declared.drafts.TheConstants.{MOST_DRAFTS as MOST};
-ghost use Rattle.handheld_core.specs.Reading.{IsBegun, base_of, draft_step, finished, going_on as with_open, head_in, in_part, in_rows, is_between as is_whole, nothing, one_allowance, one_item, opened, priced, with_counter, with_end, with_row};
+ghost use Rattle.handheld_core.specs.declared.draft.Draft.{Draft};
+ghost use Rattle.plain_lines.specs.Refusing.{Steps};
+ghost use Rattle.handheld_core.specs.Reading.{IsBegun, base_of, draft_step, finished, going_on as with_open, head_in, in_part, in_rows, is_between as is_whole, nothing, one_allowance, one_item, one_row, opened, priced, with_counter, with_end, with_row};
 ghost use Rattle.handheld_core.specs.declared.reading.Part.TheVariants as parts;
 
 use crate::draft::Draft;
@@ -18,6 +20,7 @@ use dsd_values::{
 use plain_lines::{CountedLines, PlainLine, misplaced, read_signature, refuse, value};
 use std::alloc::Global;
 use std::marker::Model;
+use std::mem;
 
 /// What the last row of a draft was.
 #[derive(Clone, Copy, Debug, PartialEq, Eq)]
@@ -93,7 +96,32 @@ impl DraftsSoFar {
             Part::Between => begin(done, line),
             Part::Headed(head) => sign(done, head, line),
             Part::Signed(head, signature) => tolerate(alloc, done, head, signature, line),
-            Part::Open(draft) => take_row(alloc, done, draft, line),
+            Part::Open(draft) => go_on(alloc, done, draft, line),
+        }
+    }
+
+    /// Takes one more line. A row goes into the open draft where that is, and nothing moves.
+    #[tactic(auto, unfolding(crate::specs::Reading::draft_step))]
+    pub(crate) fn take(&mut self, alloc: Global, line: &PlainLine<'_>) -> Result<(), DraftFault>
+        ensures { Steps result self.new (draft_step self.old line.now) }
+    {
+        match &mut self.part {
+            Part::Open(draft) if !line.leads(b"END") => take_row(alloc, draft, line),
+            _ => self.take_moved(alloc, line),
+        }
+    }
+
+    /// Takes one more line, whatever it is.
+    fn take_moved(&mut self, alloc: Global, line: &PlainLine<'_>) -> Result<(), DraftFault>
+        ensures { Steps result self.new (draft_step self.old line.now) }
+    {
+        let so_far = mem::replace(self, DraftsSoFar::new(alloc));
+        match so_far.take_line(alloc, line) {
+            Ok(next) => {
+                *self = next;
+                Ok(())
+            }
+            Err(fault) => Err(fault),
         }
     }
 
@@ -205,51 +233,59 @@ fn opened_draft(alloc: Global, head: BaseHead, signature: Signature, tolerance: 
 }
 
 /// Takes a row, or the end of a draft.
-fn take_row(
+#[tactic(auto, using(crate::proofs::Ended::end_is_no_counter))]
+fn go_on(
     alloc: Global,
     done: Drafts,
-    draft: OpenDraft,
+    mut draft: OpenDraft,
     line: &PlainLine<'_>,
 ) -> Result<DraftsSoFar, DraftFault>
     requires { IsBegun draft.head done }
     ensures { UnlessMemory DraftFault.Memory result (in_rows done draft line.now) }
 {
+    if line.leads(b"END") {
+        return end_draft(alloc, done, draft, line);
+    }
+    match take_row(alloc, &mut draft, line) {
+        Ok(()) => Ok(going_on(done, draft)),
+        Err(fault) => Err(fault),
+    }
+}
+
+/// Takes a row.
+fn take_row(alloc: Global, draft: &mut OpenDraft, line: &PlainLine<'_>) -> Result<(), DraftFault>
+    ensures row { (done : List Draft) → Steps result (with_open done draft.new) (one_row done draft.old line.now) }
+    ensures head { draft.new.head ≡ draft.old.head }
+{
     if line.leads(b"COUNTER") {
-        take_counter(done, draft, line)
-    } else if line.leads(b"END") {
-        end_draft(alloc, done, draft, line)
+        take_counter(draft, line)
     } else {
-        take_priced_row(alloc, done, draft, line)
+        take_priced_row(alloc, draft, line)
     }
 }
 
 /// Takes an item or an allowance. Behind a counter neither stands.
 fn take_priced_row(
     alloc: Global,
-    done: Drafts,
-    draft: OpenDraft,
+    draft: &mut OpenDraft,
     line: &PlainLine<'_>,
-) -> Result<DraftsSoFar, DraftFault>
-    requires { IsBegun draft.head done }
-    ensures { UnlessMemory DraftFault.Memory result (with_row draft.stage done draft line.now) }
+) -> Result<(), DraftFault>
+    ensures row { (done : List Draft) → Steps result (with_open done draft.new) (with_row draft.old.stage done draft.old line.now) }
+    ensures head { draft.new.head ≡ draft.old.head }
 {
     if matches!(draft.stage, Stage::Counter) {
         Err(refuse(line, DraftReason::Line))
     } else if line.leads(b"ITEM") {
-        take_item(alloc, done, draft, line)
+        take_item(alloc, draft, line)
     } else {
-        take_allowance(alloc, done, draft, line)
+        take_allowance(alloc, draft, line)
     }
 }
 
 /// Takes a counter.
-fn take_counter(
-    done: Drafts,
-    mut draft: OpenDraft,
-    line: &PlainLine<'_>,
-) -> Result<DraftsSoFar, DraftFault>
-    requires { IsBegun draft.head done }
-    ensures { UnlessMemory DraftFault.Memory result (with_counter done draft line.now) }
+fn take_counter(draft: &mut OpenDraft, line: &PlainLine<'_>) -> Result<(), DraftFault>
+    ensures row { (done : List Draft) → Steps result (with_open done draft.new) (with_counter done draft.old line.now) }
+    ensures head { draft.new.head ≡ draft.old.head }
 {
     if let Some(reason) = misplaced(line, b"COUNTER", 4) {
         return Err(refuse(line, reason));
@@ -257,21 +293,16 @@ fn take_counter(
     match draft.counters.take_line(line) {
         Ok(()) => {
             draft.stage = Stage::Counter;
-            Ok(going_on(done, draft))
+            Ok(())
         }
         Err(fault) => Err(fault),
     }
 }
 
 /// Takes an item.
-fn take_item(
-    alloc: Global,
-    done: Drafts,
-    mut draft: OpenDraft,
-    line: &PlainLine<'_>,
-) -> Result<DraftsSoFar, DraftFault>
-    requires { IsBegun draft.head done }
-    ensures { UnlessMemory DraftFault.Memory result (one_item done draft line.now) }
+fn take_item(alloc: Global, draft: &mut OpenDraft, line: &PlainLine<'_>) -> Result<(), DraftFault>
+    ensures row { (done : List Draft) → Steps result (with_open done draft.new) (one_item done draft.old line.now) }
+    ensures head { draft.new.head ≡ draft.old.head }
 {
     if let Some(reason) = misplaced(line, b"ITEM", 6) {
         return Err(refuse(line, reason));
@@ -279,7 +310,7 @@ fn take_item(
     match draft.rows.take_item(alloc, line) {
         Ok(()) => {
             draft.stage = Stage::Item;
-            Ok(going_on(done, draft))
+            Ok(())
         }
         Err(fault) => Err(fault),
     }
@@ -288,19 +319,18 @@ fn take_item(
 /// Takes an allowance, of the last item where one has come.
 fn take_allowance(
     alloc: Global,
-    done: Drafts,
-    mut draft: OpenDraft,
+    draft: &mut OpenDraft,
     line: &PlainLine<'_>,
-) -> Result<DraftsSoFar, DraftFault>
-    requires { IsBegun draft.head done }
-    ensures { UnlessMemory DraftFault.Memory result (one_allowance done draft line.now) }
+) -> Result<(), DraftFault>
+    ensures row { (done : List Draft) → Steps result (with_open done draft.new) (one_allowance done draft.old line.now) }
+    ensures head { draft.new.head ≡ draft.old.head }
 {
     if let Some(reason) = misplaced(line, b"ALLOW", 5) {
         return Err(refuse(line, reason));
     }
     let in_line = !matches!(draft.stage, Stage::Record);
     match draft.rows.take_allowance(alloc, in_line, line) {
-        Ok(()) => Ok(going_on(done, draft)),
+        Ok(()) => Ok(()),
         Err(fault) => Err(fault),
     }
 }

@@ -10,12 +10,13 @@ ghost use Rattle.dsd_record.specs.LineChanges.{numbered};
 ghost use Rattle.dsd_record.specs.Naming.{answered_level};
 
 use super::DsdRecord;
-use crate::changes::changed_lines;
+use crate::changes::shared_lines;
 use crate::fault::ApplyFault;
 use adjustment_895::Answer895;
 use dsd_pricing::{Totals, quantities, sum_of};
 use dsd_values::{Check, DsdNumber, Extra, Flag, Level, Line, MOST_LINES};
 use indexmap::IndexMap;
+use std::rc::Rc;
 
 impl DsdRecord {
     /// Takes an answer, sealed with this integrity value. The lines of an adjustment take the places of those with their numbers or go last,
@@ -81,17 +82,22 @@ impl DsdRecord {
     }
 
     /// The lines behind an adjustment, which states what they come to.
-    fn changed(&self, answer: &Answer895) -> Result<IndexMap<DsdNumber, Line>, ApplyFault>
-        ensures { Refuses result (rows_fault answer.now (lines_after self.now answer.now) self.now.extras) (λ after. after.entries ≡ numbered (lines_after self.now answer.now)) }
+    fn changed(&self, answer: &Answer895) -> Result<Rc<IndexMap<DsdNumber, Line>>, ApplyFault>
+        ensures { Refuses result (rows_fault answer.now (lines_after self.now answer.now) self.now.extras) (λ after. after.value.entries ≡ numbered (lines_after self.now answer.now)) }
     {
-        let after = changed_lines(*self.lines.allocator(), &self.lines, answer.lines())?;
-        check_rows(answer, after.values().as_slice(), self.extras.as_slice())?;
+        let before = self.lines();
+        let after = shared_lines(*before.allocator(), before, answer.lines())?;
+        check_rows(
+            answer,
+            after.as_ref().values().as_slice(),
+            self.extras().as_slice(),
+        )?;
         Ok(after)
     }
 
     /// Makes this the version with these lines.
-    fn take(&mut self, after: IndexMap<DsdNumber, Line>, answer: &Answer895, check: Check)
-        requires lines { after.entries ≡ numbered (lines_after self.old answer.now) }
+    fn take(&mut self, after: Rc<IndexMap<DsdNumber, Line>>, answer: &Answer895, check: Check)
+        requires lines { after.value.entries ≡ numbered (lines_after self.old answer.now) }
         requires applies { Applies self.old answer.now }
         ensures { self.new ≡ adjusted self.old answer.now check }
     {
