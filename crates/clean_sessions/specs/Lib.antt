@@ -1,0 +1,14 @@
+pub mod Turns
+pub mod CleanTurns
+pub mod CleanHeaders
+pub mod BlocksAlone
+pub mod Courses
+pub mod Places
+pub mod Fronts
+pub mod DeedShapes
+pub mod Feeding
+pub mod Halls
+pub mod Sessions
+pub mod Beginnings
+pub mod ChosenAnswers
+pub mod Untouched
