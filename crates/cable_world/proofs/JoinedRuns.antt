@@ -21,7 +21,7 @@ use Rattle.cable_world.specs.Living.{AreRunsOf, Parts, begins_run, is_opening, p
 use Rattle.cable_world.specs.Steps.{WorldStep, same_role}
 use Rattle.cable_world.proofs.Taking.{answers_more, bytes_more}
 
-said_more : (a b : List Call) → said_in (a ++ b) ≡ said_in a ++ said_in b
+pub said_more : (a b : List Call) → said_in (a ++ b) ≡ said_in a ++ said_in b
 said_more [] b = refl
 said_more (call ∷ a) b = ap (λ (l : List ℕ). said_by call ++ l) (said_more a b) ∙ sym (append_assoc (said_by call) (said_in a) (said_in b))
 

@@ -2,7 +2,7 @@ mod Deeds
 mod EventsRead
 mod ScriptParts
 mod ScriptSaid
-mod ScriptAgain
+pub mod ScriptAgain
 mod Worked
 mod Deliveries
 mod Taking
@@ -15,3 +15,24 @@ mod Recorded
 mod JoinedRuns
 mod ByStation
 mod CutScripts
+mod Partly
+mod PlayerPolled
+mod PlayerOpened
+mod Places
+mod Seated
+mod SeatStep
+mod HandheldStepped
+mod ReceiverStepped
+mod Stepped
+mod WorldPlayed
+mod Unarmed
+mod LastAlong
+mod Finished
+mod FinishedWorld
+mod Going
+mod PlannedSeats
+mod PolledOut
+mod Delivered
+mod Exchanged
+mod StartedEnds
+mod EventsPlayed
