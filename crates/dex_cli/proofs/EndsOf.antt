@@ -16,6 +16,7 @@ use Rattle.dsd_end.specs.RunSoFar.{Runs}
 use Rattle.dsd_end.specs.Standings.{Standing, first_standing}
 use Rattle.end_report.specs.Reports.{are_final, report_text}
 use Rattle.end_report.specs.declared.ending.Ending.{Ending}
+use Rattle.end_report.specs.declared.ending.LastRun.TheVariants as runs
 use Rattle.dex_cli.specs.Ends.{Ends, EndsSo, IsIdle, IsReported, IsRunning, IsToldOfEnd, Opening, Polls, RestsSo}
 use Rattle.dex_cli.specs.Formatting.{Served}
 use Rattle.dex_cli.specs.Showing.{LeavesAlone}
@@ -36,7 +37,7 @@ told_so tells chooser other first last served ending header entries (Ok (verdict
   entries = entries;
   rests = subst (λ (e : Ending). RestsSo e tells header entries served.after) (sym told.ending_is) rests;
   report_is = record {
-    text = told.text ∙ ap (λ (c : Chooser). report_text entries c.drafts last.desk.refused ending) same ∙ ap (λ (e : Ending). report_text entries chooser.drafts last.desk.refused e) (sym told.ending_is);
+    text = told.text ∙ ap (λ (c : Chooser). report_text entries c.drafts last.desk.refused (runs.Ended ending)) same ∙ ap (λ (e : Ending). report_text entries chooser.drafts last.desk.refused (runs.Ended e)) (sym told.ending_is);
     ending_is = refl;
     settled = told.settled ∙ ap (λ (c : Chooser). are_final entries c.drafts) same;
   };

@@ -1,7 +1,10 @@
+mod One
 pub mod Two
 mod ShowWords
 pub mod Five
 pub mod OneJob
+mod Replayed
+mod OneReplay
 pub mod OneStatus
 pub mod SumUp
 mod Attaching

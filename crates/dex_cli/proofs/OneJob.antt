@@ -5,7 +5,7 @@ use Rattle.dsd_values.specs.declared.role.Role.TheVariants.{Supplier, Receiver}
 use Rattle.dsd_journal.specs.declared.header.Header.{Header}
 use Rattle.dex_cli.specs.FormatWords.{format_words, role_word}
 use Rattle.dex_cli.specs.EndWords.{SpellsEnd, end_words}
-use Rattle.dex_cli.specs.Words.{AsksCheck, AsksFormat, AsksShow, check_words, show_words, Spells}
+use Rattle.dex_cli.specs.Words.{AsksCheck, AsksEnd, AsksFormat, AsksReplay, AsksShow, check_words, replay_words, show_words, Spells}
 use Rattle.dex_cli.specs.declared.end_words.EndNames.{EndNames}
 use Rattle.dex_cli.specs.declared.format_words.NewJournal.{NewJournal}
 use Rattle.dex_cli.specs.declared.words.Job.{Job}
@@ -112,6 +112,32 @@ end_only role names words s = (
   λ (journal, t). end_is_show journal role names (sym t.words_are ∙ s.words_are),
 )
 
+-- the word of a `replay` is those of no other job
+replay_is_check : (kind : CheckKind) → check_words kind ≡ replay_words → ⊥
+replay_is_check kind e = let never : 2 ≡ 1 = sym (two kind) ∙ ap length e in absurd (omega (arith, never))
+  where
+    two : (kind : CheckKind) → length (check_words kind) ≡ 2
+    two checks.Set = refl
+    two checks.Text = refl
+    two checks.Line = refl
+
+replay_is_format : (new : NewJournal) → format_words new ≡ replay_words → ⊥
+replay_is_format new e = let never : 5 ≡ 1 = ap length e in absurd (omega (arith, never))
+
+replay_is_show : (journal : List ℕ) → show_words journal ≡ replay_words → ⊥
+replay_is_show journal e = let never : 2 ≡ 1 = ap length e in absurd (omega (arith, never))
+
+replay_is_end : (role : Role) (names : EndNames) → end_words role names ≡ replay_words → ⊥
+replay_is_end role names e = let never : 3 ≡ 1 = ap length e in absurd (omega (arith, never))
+
+pub replay_only : (words : List (List ℕ)) → AsksReplay words → (AsksCheck words → ⊥) × (AsksFormat words → ⊥) × (AsksShow words → ⊥) × (AsksEnd words → ⊥)
+replay_only words s = (
+  λ (kind, t). replay_is_check kind (sym t ∙ s),
+  λ (new, t). replay_is_format new (sym t.words_are ∙ s),
+  λ (journal, t). replay_is_show journal (sym t.words_are ∙ s),
+  λ (role, names, t). replay_is_end role names (sym t.words_are ∙ s),
+)
+
 -- what holds of one end whose words they are holds of the other
 pub same_end : (words : List (List ℕ)) (role role' : Role) (names names' : EndNames) (P : Role → EndNames → Type 0) → SpellsEnd role names words → SpellsEnd role' names' words → P role names → P role' names'
 same_end words role role' names names' P s t p =
@@ -147,3 +173,14 @@ one_job words (jobs.Format new) (jobs.Receiver names) s t = absurd (end_is_forma
 one_job words (jobs.Receiver names) (jobs.Format new) s t = absurd (end_is_format new Receiver names (sym t.words_are ∙ s.words_are))
 one_job words (jobs.Show journal) (jobs.Receiver names) s t = absurd (end_is_show journal Receiver names (sym s.words_are ∙ t.words_are))
 one_job words (jobs.Receiver names) (jobs.Show journal) s t = absurd (end_is_show journal Receiver names (sym t.words_are ∙ s.words_are))
+one_job words jobs.Replay jobs.Replay s t = refl
+one_job words (jobs.Check kind) jobs.Replay s t = absurd (replay_is_check kind (sym s ∙ t))
+one_job words jobs.Replay (jobs.Check kind) s t = absurd (replay_is_check kind (sym t ∙ s))
+one_job words (jobs.Format new) jobs.Replay s t = absurd (replay_is_format new (sym s.words_are ∙ t))
+one_job words jobs.Replay (jobs.Format new) s t = absurd (replay_is_format new (sym t.words_are ∙ s))
+one_job words (jobs.Show journal) jobs.Replay s t = absurd (replay_is_show journal (sym s.words_are ∙ t))
+one_job words jobs.Replay (jobs.Show journal) s t = absurd (replay_is_show journal (sym t.words_are ∙ s))
+one_job words (jobs.Handheld names) jobs.Replay s t = absurd (replay_is_end Supplier names (sym s.words_are ∙ t))
+one_job words jobs.Replay (jobs.Handheld names) s t = absurd (replay_is_end Supplier names (sym t.words_are ∙ s))
+one_job words (jobs.Receiver names) jobs.Replay s t = absurd (replay_is_end Receiver names (sym s.words_are ∙ t))
+one_job words jobs.Replay (jobs.Receiver names) s t = absurd (replay_is_end Receiver names (sym t.words_are ∙ s))

@@ -14,7 +14,8 @@ use Rattle.dsd_values.specs.declared.role.Role.TheVariants.{Supplier, Receiver}
 use Rattle.dex_cli.specs.Words.{AsksEnd, Spells}
 use Rattle.dex_cli.specs.Formatting.{Served, Formats}
 use Rattle.dex_cli.specs.Showing.{Shows, IsNotAJournal}
-use Rattle.dex_cli.specs.Verdicts.{IsInput, ChecksSet, ChecksText, ChecksLine, Read, IsChecked, Does, MayCome, status_at, status_of, status_of_line}
+use Rattle.dex_cli.specs.Replaying.{Worlds}
+use Rattle.dex_cli.specs.Verdicts.{IsInput, ReplaysInput, ChecksSet, ChecksText, ChecksLine, Read, IsChecked, Does, MayCome, status_at, status_of, status_of_line}
 use Rattle.dex_cli.specs.declared.verdict.Verdict.{Verdict}
 use Rattle.dex_cli.specs.declared.verdict.Verdict.TheVariants as verdicts
 use Rattle.dex_cli.specs.declared.refusal.Reason.{Reason}
@@ -26,7 +27,8 @@ use Rattle.dex_cli.specs.declared.words.CheckKind.{CheckKind}
 use Rattle.dex_cli.specs.declared.words.CheckKind.TheVariants as checks
 use Rattle.dex_cli.specs.declared.format_words.NewJournal.{NewJournal}
 use Rattle.dex_cli.proofs.LegalSets.{shown_is_none}
-use Rattle.dex_cli.proofs.OneJob.{check_is_format, check_is_show, one_kind, show_is_format}
+use Rattle.dex_cli.proofs.OneJob.{check_is_format, check_is_show, one_kind, replay_only, show_is_format}
+use Rattle.dex_cli.proofs.OneReplay.{input_long, input_one}
 use Rattle.dex_cli.specs.declared.status.TheConstants.{DONE, INPUT_REFUSED}
 
 -- ---- one input
@@ -155,7 +157,7 @@ line_one input a b c d = elim (line_verdict input a c) [
 
 -- ---- one status of words
 
-module _ (left after after' : List ℕ) (faults now now' : ℕ) (one other : Served) (a b : Verdict) where
+module _ (left after after' : List ℕ) (faults now now' : ℕ) (one other : Served) (here there : Worlds) (a b : Verdict) where
   abbrev read : Read
   read = record { left = Some left; after = Some after; faults = faults; faults_after = now }
 
@@ -180,12 +182,20 @@ module _ (left after after' : List ℕ) (faults now now' : ℕ) (one other : Ser
     | inr long ↦ line_long x.input a long.0 x.checks ∙ sym (line_long y.input b long.1 y.checks)
   ]
 
-  check_job : (kind : CheckKind) → Does (Unit {0}) (jobs.Check kind) read one a → Does (Unit {0}) (jobs.Check kind) read' other b → a ≢ verdicts.SourceFault → b ≢ verdicts.SourceFault → status_of a ≡ status_of b
+  check_job : (kind : CheckKind) → Does (Unit {0}) (jobs.Check kind) read one here a → Does (Unit {0}) (jobs.Check kind) read' other there b → a ≢ verdicts.SourceFault → b ≢ verdicts.SourceFault → status_of a ≡ status_of b
   check_job kind (inl unread) q f g = absurd (f unread.verdict_is)
   check_job kind (inr x) (inl unread) f g = absurd (g unread.verdict_is)
   check_job checks.Set (inr x) (inr y) f g = set_job x y
   check_job checks.Text (inr x) (inr y) f g = text_job x y
   check_job checks.Line (inr x) (inr y) f g = line_job x y
+
+  replay_job : here.after ≡ there.after → Does (Unit {0}) jobs.Replay read one here a → Does (Unit {0}) jobs.Replay read' other there b → a ≢ verdicts.SourceFault → b ≢ verdicts.SourceFault → status_of a ≡ status_of b
+  replay_job same (inl unread) q f g = absurd (f unread.0.verdict_is)
+  replay_job same (inr x) (inl unread) f g = absurd (g unread.0.verdict_is)
+  replay_job same (inr x) (inr y) f g = elim (inputs left after after' x.0 y.0 x.1 y.1) [
+    | inl is ↦ input_one y.0 here there a b same (subst (λ (t : List ℕ). ReplaysInput t here a) is x.2) y.2
+    | inr long ↦ input_long x.0 here a long.0 x.2 ∙ sym (input_long y.0 there b long.1 y.2)
+  ]
 
 -- an empty journal is made, and any other is not
 format_job : (new new' : NewJournal) (one other : Served) (a b : Verdict) → one.before.journal ≡ other.before.journal → Formats (Unit {0}) new one a → Formats (Unit {0}) new' other b
@@ -223,10 +233,10 @@ show_job journal journal' one other (verdicts.Shown shown) _ same p q f g = absu
 show_job journal journal' one other (verdicts.NotAJournal place) _ same p q f g = absurd q
 show_job journal journal' one other _ b same p q f g = absurd p
 
-module _ (words : List (List ℕ)) (left after after' : List ℕ) (faults now now' : ℕ) (one other : Served) (a b : Verdict) (no_end : AsksEnd words → ⊥) (f : a ≢ verdicts.SourceFault) (f' : a ≢ verdicts.StationFault)
-    (g : b ≢ verdicts.SourceFault) (g' : b ≢ verdicts.StationFault) (same : one.before.journal ≡ other.before.journal) where
-  by_jobs : (job job' : Job) → Spells job words → Spells job' words → Does (Unit {0}) job (read left after after' faults now now' one other a b) one a
-      → Does (Unit {0}) job' (read' left after after' faults now now' one other a b) other b → status_of a ≡ status_of b
+module _ (words : List (List ℕ)) (left after after' : List ℕ) (faults now now' : ℕ) (one other : Served) (here there : Worlds) (a b : Verdict) (no_end : AsksEnd words → ⊥) (f : a ≢ verdicts.SourceFault) (f' : a ≢ verdicts.StationFault)
+    (g : b ≢ verdicts.SourceFault) (g' : b ≢ verdicts.StationFault) (same : one.before.journal ≡ other.before.journal) (left_same : here.after ≡ there.after) where
+  by_jobs : (job job' : Job) → Spells job words → Spells job' words → Does (Unit {0}) job (read left after after' faults now now' one other here there a b) one here a
+      → Does (Unit {0}) job' (read' left after after' faults now now' one other here there a b) other there b → status_of a ≡ status_of b
   by_jobs (jobs.Format new) (jobs.Format new') s t p q = format_job new new' one other a b same p.1 q.1 f' g'
   by_jobs (jobs.Format new) (jobs.Check kind) s t p q = absurd (check_is_format kind new (sym t ∙ s.words_are))
   by_jobs (jobs.Check kind) (jobs.Format new) s t p q = absurd (check_is_format kind new (sym s ∙ t.words_are))
@@ -237,8 +247,8 @@ module _ (words : List (List ℕ)) (left after after' : List ℕ) (faults now no
   by_jobs (jobs.Format new) (jobs.Show journal) s t p q = absurd (show_is_format journal new (sym t.words_are ∙ s.words_are))
   by_jobs (jobs.Check kind) (jobs.Check kind') s t p q =
       let same_kind : kind' ≡ kind = one_kind kind' kind (sym t ∙ s) in
-      check_job left after after' faults now now' one other a b kind p
-      (subst (λ (k : CheckKind). Does (Unit {0}) (jobs.Check k) (read' left after after' faults now now' one other a b) other b) same_kind q) f g
+      check_job left after after' faults now now' one other here there a b kind p
+      (subst (λ (k : CheckKind). Does (Unit {0}) (jobs.Check k) (read' left after after' faults now now' one other here there a b) other there b) same_kind q) f g
   by_jobs (jobs.Handheld names) job' s t p q = absurd (no_end (Supplier, names, s))
   by_jobs (jobs.Receiver names) job' s t p q = absurd (no_end (Receiver, names, s))
   by_jobs (jobs.Check kind) (jobs.Handheld names) s t p q = absurd (no_end (Supplier, names, t))
@@ -247,17 +257,26 @@ module _ (words : List (List ℕ)) (left after after' : List ℕ) (faults now no
   by_jobs (jobs.Format new) (jobs.Receiver names) s t p q = absurd (no_end (Receiver, names, t))
   by_jobs (jobs.Show journal) (jobs.Handheld names) s t p q = absurd (no_end (Supplier, names, t))
   by_jobs (jobs.Show journal) (jobs.Receiver names) s t p q = absurd (no_end (Receiver, names, t))
+  by_jobs jobs.Replay jobs.Replay s t p q = replay_job left after after' faults now now' one other here there a b left_same p q f g
+  by_jobs jobs.Replay (jobs.Check kind) s t p q = absurd ((replay_only words s).0 (kind, t))
+  by_jobs jobs.Replay (jobs.Format new) s t p q = absurd ((replay_only words s).1 (new, t))
+  by_jobs jobs.Replay (jobs.Show journal) s t p q = absurd ((replay_only words s).2 (journal, t))
+  by_jobs jobs.Replay (jobs.Handheld names) s t p q = absurd ((replay_only words s).3 (Supplier, names, t))
+  by_jobs jobs.Replay (jobs.Receiver names) s t p q = absurd ((replay_only words s).3 (Receiver, names, t))
+  by_jobs (jobs.Check kind) jobs.Replay s t p q = absurd ((replay_only words t).0 (kind, s))
+  by_jobs (jobs.Format new) jobs.Replay s t p q = absurd ((replay_only words t).1 (new, s))
+  by_jobs (jobs.Show journal) jobs.Replay s t p q = absurd ((replay_only words t).2 (journal, s))
 
-  by_words : MayCome (Unit {0}) words (read left after after' faults now now' one other a b) one a → MayCome (Unit {0}) words (read' left after after' faults now now' one other a b) other b
+  by_words : MayCome (Unit {0}) words (read left after after' faults now now' one other here there a b) one here a → MayCome (Unit {0}) words (read' left after after' faults now now' one other here there a b) other there b
       → status_of a ≡ status_of b
   by_words (inl p) (inl q) = ap status_of (p.verdict_is ∙ sym q.verdict_is)
   by_words (inl p) (inr q) = absurd (p.none q.job q.spells)
   by_words (inr p) (inl q) = absurd (q.none p.job p.spells)
   by_words (inr p) (inr q) = by_jobs p.job q.job p.spells q.spells p.does q.does
 
-pub one_status : (words : List (List ℕ)) (left after after' : List ℕ) (faults now now' : ℕ) (one other : Served) (a b : Verdict) → (AsksEnd words → ⊥) → a ≢ verdicts.SourceFault → a ≢ verdicts.StationFault
-    → b ≢ verdicts.SourceFault → b ≢ verdicts.StationFault → one.before.journal ≡ other.before.journal
-    → MayCome (Unit {0}) words (record { left = Some left; after = Some after; faults = faults; faults_after = now }) one a
-    → MayCome (Unit {0}) words (record { left = Some left; after = Some after'; faults = faults; faults_after = now' }) other b
+pub one_status : (words : List (List ℕ)) (left after after' : List ℕ) (faults now now' : ℕ) (one other : Served) (here there : Worlds) (a b : Verdict) → (AsksEnd words → ⊥) → a ≢ verdicts.SourceFault → a ≢ verdicts.StationFault
+    → b ≢ verdicts.SourceFault → b ≢ verdicts.StationFault → one.before.journal ≡ other.before.journal → here.after ≡ there.after
+    → MayCome (Unit {0}) words (record { left = Some left; after = Some after; faults = faults; faults_after = now }) one here a
+    → MayCome (Unit {0}) words (record { left = Some left; after = Some after'; faults = faults; faults_after = now' }) other there b
     → status_of a ≡ status_of b
-one_status words left after after' faults now now' one other a b no_end f f' g g' same p q = by_words words left after after' faults now now' one other a b no_end f f' g g' same p q
+one_status words left after after' faults now now' one other here there a b no_end f f' g g' same left_same p q = by_words words left after after' faults now now' one other here there a b no_end f f' g g' same left_same p q

@@ -4,12 +4,13 @@ use Rattle.dsd_values.specs.declared.role.Role.{Role}
 use Rattle.dsd_values.specs.declared.role.Role.TheVariants.{Supplier, Receiver}
 use Rattle.dex_cli.specs.EndWords.{SpellsEnd}
 use Rattle.dex_cli.specs.Formatting.{Served}
-use Rattle.dex_cli.specs.Verdicts.{MayCome, Read, ServesEnd}
+use Rattle.dex_cli.specs.Replaying.{Worlds}
+use Rattle.dex_cli.specs.Verdicts.{MayCome, Read, Replays, ServesEnd}
 use Rattle.dex_cli.specs.declared.verdict.Verdict.{Verdict}
-use Rattle.dex_cli.specs.Words.{AsksCheck, AsksFormat, AsksShow, IsOfNoJob}
+use Rattle.dex_cli.specs.Words.{AsksCheck, AsksFormat, AsksReplay, AsksShow, IsOfNoJob}
 use Rattle.dex_cli.specs.declared.end_words.EndNames.{EndNames}
 use Rattle.dex_cli.specs.declared.words.Job.TheVariants as jobs
-use Rattle.dex_cli.proofs.OneJob.{end_only, same_end}
+use Rattle.dex_cli.proofs.OneJob.{end_only, replay_only, same_end}
 
 -- what is said of the job of an end, whichever the words ask for
 abbrev pub OfEnd : List (List ℕ) → (Role → EndNames → Type 0) → Type 0
@@ -24,6 +25,9 @@ other_format words P asked = λ role names s. absurd ((end_only role names words
 
 pub other_show : (words : List (List ℕ)) (P : Role → EndNames → Type 0) → AsksShow words → OfEnd words P
 other_show words P asked = λ role names s. absurd ((end_only role names words s).2 asked)
+
+pub other_replay : (words : List (List ℕ)) (P : Role → EndNames → Type 0) → AsksReplay words → OfEnd words P
+other_replay words P asked = λ role names s. absurd ((replay_only words asked).3 (role, names, s))
 
 pub no_show : (words : List (List ℕ)) (role : Role) (names : EndNames) → SpellsEnd role names words → AsksShow words → ⊥
 no_show words role names s asked = (end_only role names words s).2 asked
@@ -41,15 +45,20 @@ this_end words role names P s p = λ role' names' t. same_end words role role' n
 
 -- ---- what the jobs may come to
 
-pub may_handheld : {E : Type 0} (tells : Type 0) (words : List (List ℕ)) (read : Read) (served : Served) (names : EndNames) (result : Result Verdict E) → SpellsEnd Supplier names words
-    → IfOk result (ServesEnd tells Supplier names read served) → IfOk result (MayCome tells words read served)
-may_handheld tells words read served names (Ok verdict) spells does = inr (record { job = jobs.Handheld names; spells = spells; does = does })
-may_handheld tells words read served names (Err fault) spells does = tt
+pub may_handheld : {E : Type 0} (tells : Type 0) (words : List (List ℕ)) (read : Read) (served : Served) (worlds : Worlds) (names : EndNames) (result : Result Verdict E) → SpellsEnd Supplier names words
+    → IfOk result (ServesEnd tells Supplier names read served) → IfOk result (MayCome tells words read served worlds)
+may_handheld tells words read served worlds names (Ok verdict) spells does = inr (record { job = jobs.Handheld names; spells = spells; does = does })
+may_handheld tells words read served worlds names (Err fault) spells does = tt
 
-pub may_receiver : {E : Type 0} (tells : Type 0) (words : List (List ℕ)) (read : Read) (served : Served) (names : EndNames) (result : Result Verdict E) → SpellsEnd Receiver names words
-    → IfOk result (ServesEnd tells Receiver names read served) → IfOk result (MayCome tells words read served)
-may_receiver tells words read served names (Ok verdict) spells does = inr (record { job = jobs.Receiver names; spells = spells; does = does })
-may_receiver tells words read served names (Err fault) spells does = tt
+pub may_receiver : {E : Type 0} (tells : Type 0) (words : List (List ℕ)) (read : Read) (served : Served) (worlds : Worlds) (names : EndNames) (result : Result Verdict E) → SpellsEnd Receiver names words
+    → IfOk result (ServesEnd tells Receiver names read served) → IfOk result (MayCome tells words read served worlds)
+may_receiver tells words read served worlds names (Ok verdict) spells does = inr (record { job = jobs.Receiver names; spells = spells; does = does })
+may_receiver tells words read served worlds names (Err fault) spells does = tt
+
+pub may_replay : {E : Type 0} (tells : Type 0) (words : List (List ℕ)) (read : Read) (served : Served) (worlds : Worlds) (result : Result Verdict E) → AsksReplay words
+    → IfOk result (Replays read worlds) → IfOk result (MayCome tells words read served worlds)
+may_replay tells words read served worlds (Ok verdict) spells does = inr (record { job = jobs.Replay; spells = spells; does = does })
+may_replay tells words read served worlds (Err fault) spells does = tt
 
 pub on_err : {X E : Type 0} (result : Result X E) (P : Type 0) → P → OnErr result P
 on_err (Ok value) P p = tt

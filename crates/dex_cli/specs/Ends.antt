@@ -32,6 +32,7 @@ use Rattle.dsd_end.specs.Standings.{Standing, first_standing}
 use Rattle.end_report.specs.Reports.{are_final, report_text}
 use Rattle.end_report.specs.declared.ending.Ending.{Ending}
 use Rattle.end_report.specs.declared.ending.Ending.TheVariants as endings
+use Rattle.end_report.specs.declared.ending.LastRun.TheVariants as last_runs
 use Rattle.dex_cli.specs.Formatting.{Served, StaysAttached}
 use Rattle.dex_cli.specs.Showing.{LeavesAlone}
 use Rattle.dex_cli.specs.declared.end_job.EndReport.{EndReport}
@@ -104,7 +105,7 @@ RestsSo endings.Noise tells header entries after = Unit {0}
 
 -- This is printed of these entries and these drafts.
 pub record IsReportOf (entries : List Entry) (drafts : List BaseRecord) (refused : ℕ) (ending : Ending) (report : EndReport) : Type 0 where
-  pub text : report.text.items ≡ report_text entries drafts refused ending
+  pub text : report.text.items ≡ report_text entries drafts refused (last_runs.Ended ending)
   pub ending_is : report.ending ≡ ending
   pub settled : report.settled ≡ are_final entries drafts
 

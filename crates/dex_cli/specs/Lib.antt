@@ -7,6 +7,7 @@ pub mod JournalSummaries
 pub mod TextSteps
 pub mod Texts
 pub mod Formatting
+pub mod Replaying
 pub mod Showing
 pub mod Ends
 pub mod Verdicts

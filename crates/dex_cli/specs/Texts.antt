@@ -220,3 +220,4 @@ printed (verdicts.Shown journal) = journal_text journal
 printed (verdicts.NotAJournal place) = line (both (codes "NOT A JOURNAL") (decimal place))
 printed (verdicts.Ran report) = report.text.items
 printed (verdicts.Full length) = line (both (codes "FULL") (decimal length))
+printed (verdicts.Replayed report) = report.lines.items

@@ -1,5 +1,5 @@
 -- What a run may come to, by its words and what it read, and the statuses.
-use Rattle.std.specs.Prelude.{◌≡◌, ◌⊎◌, ℕ, Bool, if◌then◌else◌, ◌+◌, ◌<◌, ◌≤◌, List, length, Option}
+use Rattle.std.specs.Prelude.{◌≡◌, ◌⊎◌, ℕ, Bool, if◌then◌else◌, ◌+◌, ◌<◌, ◌≤◌, List, length, Option, Err}
 use Rattle.std.specs.Io.KnownBytes.{Consumes, IsAtEnd}
 use Rattle.std.specs.List.{list_any}
 use Rattle.dsd_station.specs.Causes.{Rose, TakesUpTo}
@@ -9,7 +9,11 @@ use Rattle.dxs_envelope.specs.FirstFault.{told_of}
 use Rattle.dsd_values.specs.declared.role.Role.{Role}
 use Rattle.dsd_values.specs.declared.role.Role.TheVariants.{Supplier, Receiver}
 use Rattle.dsd_record.specs.Choices.{Chooser}
+use Rattle.dsd_record.specs.declared.draft_fault.DraftFault.TheVariants as faults
 use Rattle.dsd_record.specs.declared.draft_fault.DraftReason.{DraftReason}
+use Rattle.cable_world.specs.Reading.{script_of}
+use Rattle.cable_world.specs.ScriptTexts.{Says as SaysScript}
+use Rattle.cable_world.specs.declared.script.Script.{Script}
 use Rattle.dex_handshake.specs.declared.session_end.SessionEnd.{SessionEnd}
 use Rattle.dex_handshake.specs.declared.session_end.SessionEnd.TheVariants as sessions
 use Rattle.end_report.specs.declared.ending.Ending.{Ending}
@@ -19,6 +23,7 @@ use Rattle.dex_cli.specs.Ends.{Ends, HasRun, SaysChoices, SaysNoChoices}
 use Rattle.dex_cli.specs.Summaries.{IsNoSet, IsSummary, IsSummedUp}
 use Rattle.dex_cli.specs.Words.{Spells, IsOfNoJob}
 use Rattle.dex_cli.specs.Formatting.{Served, Formats}
+use Rattle.dex_cli.specs.Replaying.{IsReplayed, Worlds}
 use Rattle.dex_cli.specs.Showing.{Shows}
 use Rattle.dex_cli.specs.declared.job.TheConstants.{INPUT_BYTES}
 use Rattle.dex_cli.specs.declared.end_words.EndNames.{EndNames}
@@ -131,13 +136,28 @@ pub record RunsBy (role : Role) (names : EndNames) (input : List ℕ) (before af
 abbrev pub HasServed : Role → EndNames → Read → Told → Told → Type 0
 HasServed role names read before after = (input : List ℕ) × IsInput read.left read.after input × RunsBy role names input before after
 
--- What a job comes to, by what was read and what its station told. A check leaves the station alone, and a `format` and a `show` the source.
-abbrev pub Does : Type 0 → Job → Read → Served → Verdict → Type 0
-Does tells (jobs.Check kind) read served verdict = IsUnread read verdict ⊎ IsChecked kind read verdict
-Does tells (jobs.Format new) read served verdict = (read.after ≡ read.left) × Formats tells new served verdict
-Does tells (jobs.Show journal) read served verdict = (read.after ≡ read.left) × Shows tells journal served verdict
-Does tells (jobs.Handheld names) read served verdict = ServesEnd tells Supplier names read served verdict
-Does tells (jobs.Receiver names) read served verdict = ServesEnd tells Receiver names read served verdict
+-- The script that an input says is refused.
+abbrev pub IsNoScript : List ℕ → Refusal → Type 0
+IsNoScript input refusal = (length input ≤ INPUT_BYTES) × ((reason : DraftReason) × (refusal.reason ≡ reasons.Draft reason) × (script_of input ≡ Err (faults.Refused refusal.place reason)))
+
+-- The input is refused, and the caller keeps the world that it had; or it says this script, which was played.
+abbrev pub ReplaysInput : List ℕ → Worlds → Verdict → Type 0
+ReplaysInput input worlds (verdicts.Refused refusal) = (IsTooLong input refusal ⊎ IsNoScript input refusal) × (worlds.after ≡ worlds.before)
+ReplaysInput input worlds (verdicts.Replayed report) = (length input ≤ INPUT_BYTES) × ((script : Script) × SaysScript script input × IsReplayed script worlds report)
+ReplaysInput input worlds _ = ⊥
+
+-- The source failed, and the caller keeps the world that it had; or the input was read, and this is what the script comes to.
+abbrev pub Replays : Read → Worlds → Verdict → Type 0
+Replays read worlds verdict = (IsUnread read verdict × (worlds.after ≡ worlds.before)) ⊎ ((input : List ℕ) × IsInput read.left read.after input × ReplaysInput input worlds verdict)
+
+-- What a job comes to, by what was read, what its station told, and the world that it left. A check and a `replay` leave the station alone, and a `format` and a `show` the source.
+abbrev pub Does : Type 0 → Job → Read → Served → Worlds → Verdict → Type 0
+Does tells (jobs.Check kind) read served worlds verdict = IsUnread read verdict ⊎ IsChecked kind read verdict
+Does tells (jobs.Format new) read served worlds verdict = (read.after ≡ read.left) × Formats tells new served verdict
+Does tells (jobs.Show journal) read served worlds verdict = (read.after ≡ read.left) × Shows tells journal served verdict
+Does tells (jobs.Handheld names) read served worlds verdict = ServesEnd tells Supplier names read served verdict
+Does tells (jobs.Receiver names) read served worlds verdict = ServesEnd tells Receiver names read served verdict
+Does tells jobs.Replay read served worlds verdict = Replays read worlds verdict
 
 -- The words are those of no job.
 pub record IsNoJob (words : List (List ℕ)) (read : Read) (verdict : Verdict) : Type 0 where
@@ -146,14 +166,14 @@ pub record IsNoJob (words : List (List ℕ)) (read : Read) (verdict : Verdict) :
   pub unread : read.after ≡ read.left
 
 -- The words are those of a job, and this is what it comes to.
-pub record IsJobs (tells : Type 0) (words : List (List ℕ)) (read : Read) (served : Served) (verdict : Verdict) : Type 0 where
+pub record IsJobs (tells : Type 0) (words : List (List ℕ)) (read : Read) (served : Served) (worlds : Worlds) (verdict : Verdict) : Type 0 where
   pub job : Job
   pub spells : Spells job words
-  pub does : Does tells job read served verdict
+  pub does : Does tells job read served worlds verdict
 
 -- What a run may come to.
-abbrev pub MayCome : Type 0 → List (List ℕ) → Read → Served → Verdict → Type 0
-MayCome tells words read served verdict = IsNoJob words read verdict ⊎ IsJobs tells words read served verdict
+abbrev pub MayCome : Type 0 → List (List ℕ) → Read → Served → Worlds → Verdict → Type 0
+MayCome tells words read served worlds verdict = IsNoJob words read verdict ⊎ IsJobs tells words read served worlds verdict
 
 -- what is printed is made for this verdict, and so takes memory; of each other verdict one line tells, always the same
 abbrev pub IsComposed : Verdict → Type 0
@@ -188,6 +208,10 @@ abbrev pub status_of_end : Ending → Bool → ℕ
 status_of_end (session_endings.Session end) settled = status_of_session end settled
 status_of_end session_endings.Noise settled = TOO_MUCH_HEARD
 
+-- a script that was played is done where all is final at both ends
+abbrev pub status_of_world : Bool → ℕ
+status_of_world all_final = if all_final then DONE else OPEN
+
 abbrev pub status_of : Verdict → ℕ
 status_of verdicts.Words = WORDS_REFUSED
 status_of verdicts.SourceFault = SOURCE_FAILED
@@ -202,3 +226,4 @@ status_of (verdicts.Shown journal) = DONE
 status_of (verdicts.NotAJournal place) = JOURNAL_REFUSED
 status_of (verdicts.Ran report) = status_of_end report.ending report.settled
 status_of (verdicts.Full length) = JOURNAL_FULL
+status_of (verdicts.Replayed report) = status_of_world report.all_final

@@ -17,6 +17,10 @@ check_words checks.Set = codes "check" ∷ codes "set" ∷ []
 check_words checks.Text = codes "check" ∷ codes "text" ∷ []
 check_words checks.Line = codes "check" ∷ codes "line" ∷ []
 
+-- the word of a `replay`
+abbrev pub replay_words : List (List ℕ)
+replay_words = codes "replay" ∷ []
+
 -- the words of a `show`
 abbrev pub show_words : List ℕ → List (List ℕ)
 show_words journal = codes "show" ∷ journal ∷ []
@@ -33,6 +37,7 @@ Spells (jobs.Format new) words = SpellsFormat new words
 Spells (jobs.Show journal) words = SpellsShow journal words
 Spells (jobs.Handheld names) words = SpellsEnd Supplier names words
 Spells (jobs.Receiver names) words = SpellsEnd Receiver names words
+Spells jobs.Replay words = words ≡ replay_words
 
 -- the words are those of no job
 abbrev pub IsOfNoJob : List (List ℕ) → Type 0
@@ -54,10 +59,14 @@ AsksShow words = (journal : List ℕ) × Spells (jobs.Show journal) words
 abbrev pub AsksEnd : List (List ℕ) → Type 0
 AsksEnd words = (role : Role) × (names : EndNames) × SpellsEnd role names words
 
+-- the words are those of a `replay`
+abbrev pub AsksReplay : List (List ℕ) → Type 0
+AsksReplay words = words ≡ replay_words
+
 -- the words are those of a job on a journal
 abbrev pub AsksJournal : List (List ℕ) → Type 0
 AsksJournal words = AsksFormat words ⊎ (AsksShow words ⊎ AsksEnd words)
 
 -- the words are those of a job that reads the source
 abbrev pub AsksSource : List (List ℕ) → Type 0
-AsksSource words = AsksCheck words ⊎ AsksEnd words
+AsksSource words = AsksCheck words ⊎ (AsksEnd words ⊎ AsksReplay words)

@@ -17,7 +17,7 @@ use dsd_journal::OpenFault;
 use dsd_record::Decider;
 use dsd_station::Station;
 use dsd_values::Role;
-use end_report::{Ending, are_settled, put_report};
+use end_report::{Ending, LastRun, are_settled, put_report};
 use std::alloc::{AllocError, Global};
 
 /// What is printed of an end.
@@ -91,7 +91,7 @@ fn report<D: Decider>(alloc: Global, end: &End<D>, ending: Ending) -> Result<Ver
 }
 
 fn text_of<D: Decider>(alloc: Global, end: &End<D>, ending: &Ending) -> Result<Vec<u8>, AllocError>
-    ensures { IfOk result (λ text. text.items ≡ report_text end.now.core.book.known (D.chooser end.now.decider).drafts end.now.core.standing.desk.refused ending.now) }
+    ensures { IfOk result (λ text. text.items ≡ report_text end.now.core.book.known (D.chooser end.now.decider).drafts end.now.core.standing.desk.refused (LastRun.Ended ending.now)) }
 {
     let mut text = Vec::new(alloc);
     put_report(
@@ -100,7 +100,7 @@ fn text_of<D: Decider>(alloc: Global, end: &End<D>, ending: &Ending) -> Result<V
         end.book(),
         end.decider(),
         end.refused(),
-        *ending,
+        LastRun::Ended(*ending),
     )?;
     Ok(text)
 }

@@ -9,8 +9,10 @@ ghost use Rattle.dex_cli.specs.EndWords.{SpellsEnd};
 ghost use Rattle.dex_cli.specs.Ends.{IsIdle};
 ghost use Rattle.dex_cli.specs.declared.end_words.EndNames.{EndNames as NamesValue};
 ghost use Rattle.dex_cli.specs.Verdicts.{read_of, Checks, HasServed, IsUnread, IsChecked, IsComposed, MayCome, status_of};
-ghost use Rattle.dex_cli.specs.Words.{AsksEnd, AsksJournal, AsksShow, AsksSource, IsOfNoJob, Spells};
+ghost use Rattle.dex_cli.specs.Words.{AsksEnd, AsksJournal, AsksReplay, AsksShow, AsksSource, IsOfNoJob, Spells};
 ghost use Rattle.dex_cli.specs.Formatting.{served_of};
+ghost use Rattle.cable_world.specs.declared.world_report.WorldReport.{WorldReport as ReportValue};
+ghost use Rattle.dex_cli.specs.Replaying.{worlds_of};
 ghost use Rattle.dex_cli.specs.Showing.{LooksAt};
 ghost use Rattle.dex_cli.specs.declared.verdict.Verdict.{Verdict as VerdictValue};
 ghost use Rattle.dex_cli.specs.declared.verdict.Verdict.TheVariants as verdicts;
@@ -21,12 +23,14 @@ use crate::check_text::check_text;
 use crate::fault::WordsFault;
 use crate::formatting::make_journal;
 use crate::refusal::{Reason, Refusal};
+use crate::replaying::replay;
 use crate::report::report_of;
 use crate::serving::serve_end;
 use crate::showing::show_journal;
 use crate::status::{NO_MEMORY, SINK_FAILED};
 use crate::verdict::Verdict;
 use crate::words::{CheckKind, Job, read_words};
+use cable_world::World;
 use dsd_station::{ReadFault, Sink, Source, Station, read_up_to, write_all};
 use dsd_values::Role;
 use segments::SetReason;
@@ -36,35 +40,41 @@ use std::alloc::{AllocError, Global};
 pub const INPUT_BYTES: usize = 4_194_304;
 
 /// Does what the words, those after the program's name, say: reads the source, uses the station, writes the text to
-/// the sink, and answers the status.
+/// the sink, and answers the status. A `replay` leaves the world that it played.
 pub fn dex<S: Source, K: Sink, T: Station>(
     alloc: Global,
     words: &[String],
     source: &mut S,
     sink: &mut K,
     station: &mut T,
+    world: &mut Option<World>,
 ) -> u8
     // Every status but two is that of a verdict which may come, and all of its text is written.
     ensures told { result ≢ SINK_FAILED → result ≢ NO_MEMORY → (verdict : VerdictValue)
-        × MayCome T.tells (map string_bytes words.now) (read_of S.left S.faults source.old source.new) (served_of T.told T.faults station.old station.new) verdict
+        × MayCome T.tells (map string_bytes words.now) (read_of S.left S.faults source.old source.new) (served_of T.told T.faults station.old station.new) (worlds_of world.old world.new) verdict
         × (result ≡ status_of verdict) × Appends (K.written sink.old) (K.written sink.new) (printed verdict) }
 
     // The sink failed, and a first part of such a text is written.
     ensures sink { result ≡ SINK_FAILED → Rose (K.faults sink.old) (K.faults sink.new) × ((verdict : VerdictValue)
-        × MayCome T.tells (map string_bytes words.now) (read_of S.left S.faults source.old source.new) (served_of T.told T.faults station.old station.new) verdict
+        × MayCome T.tells (map string_bytes words.now) (read_of S.left S.faults source.old source.new) (served_of T.told T.faults station.old station.new) (worlds_of world.old world.new) verdict
         × WritesFront (K.written sink.old) (K.written sink.new) (printed verdict)) }
 
     // Memory was wanting before anything was written. Of the source no more was taken than the limit and one byte, and the
     // station was not used, or its journal is not empty, or a `show` looked at it, or an end used it.
     ensures memory { result ≡ NO_MEMORY → Keeps (K.written sink.old) (K.written sink.new) × TakesUpTo (INPUT_BYTES + 1) (S.left source.old) (S.left source.new)
-        × ((station.new ≡ station.old) ⊎ (AsksShow (map string_bytes words.now) ⊎ AsksEnd (map string_bytes words.now) ⊎ ((size : ℕ) × MayCome T.tells (map string_bytes words.now) (read_of S.left S.faults source.old source.new) (served_of T.told T.faults station.old station.new) (verdicts.NotEmpty size)))) }
+        × ((station.new ≡ station.old) ⊎ (AsksShow (map string_bytes words.now) ⊎ AsksEnd (map string_bytes words.now) ⊎ ((size : ℕ) × MayCome T.tells (map string_bytes words.now) (read_of S.left S.faults source.old source.new) (served_of T.told T.faults station.old station.new) (worlds_of world.old world.new) (verdicts.NotEmpty size)))) }
 
     // Words of no job take no memory.
     ensures words { IsOfNoJob (map string_bytes words.now) → result ≢ NO_MEMORY }
 
-    // A check and the job of an end alone read the source, and a job on a journal alone uses the station.
+    // A check, the job of an end and a `replay` alone read the source, and a job on a journal alone uses the station.
     ensures unread { (AsksSource (map string_bytes words.now) → ⊥) → source.new ≡ source.old }
     ensures idle { (AsksJournal (map string_bytes words.now) → ⊥) → station.new ≡ station.old }
+
+    // A `replay` alone leaves a world, and where memory is wanting it is that of the script, played, or the one before.
+    ensures kept { (AsksReplay (map string_bytes words.now) → ⊥) → world.new ≡ world.old }
+    ensures unplayed { result ≡ NO_MEMORY → (world.new ≡ world.old)
+        ⊎ ((report : ReportValue) × MayCome T.tells (map string_bytes words.now) (read_of S.left S.faults source.old source.new) (served_of T.told T.faults station.old station.new) (worlds_of world.old world.new) (verdicts.Replayed report)) }
 
     // Whatever a `show` answers, it writes nothing: the journal is as it was.
     ensures looked { T.tells → (journal : List ℕ) → Spells (jobs.Show journal) (map string_bytes words.now) → LooksAt journal (T.told station.old) (T.told station.new) }
@@ -78,7 +88,7 @@ pub fn dex<S: Source, K: Sink, T: Station>(
     ensures sink_count { K.faults sink.old ≤ K.faults sink.new }
     ensures station_count { T.faults station.old ≤ T.faults station.new }
 {
-    match verdict_of(alloc, words, source, station) {
+    match verdict_of(alloc, words, source, station, world) {
         Ok(verdict) => print(alloc, &verdict, sink),
         Err(_) => NO_MEMORY,
     }
@@ -90,8 +100,9 @@ fn verdict_of<S: Source, T: Station>(
     words: &[String],
     source: &mut S,
     station: &mut T,
+    world: &mut Option<World>,
 ) -> Result<Verdict, AllocError>
-    ensures may { IfOk result (MayCome T.tells (map string_bytes words.now) (read_of S.left S.faults source.old source.new) (served_of T.told T.faults station.old station.new)) }
+    ensures may { IfOk result (MayCome T.tells (map string_bytes words.now) (read_of S.left S.faults source.old source.new) (served_of T.told T.faults station.old station.new) (worlds_of world.old world.new)) }
     ensures memory { OnErr result ((station.new ≡ station.old) ⊎ AsksShow (map string_bytes words.now) ⊎ AsksEnd (map string_bytes words.now)) }
     ensures taken { OnErr result (TakesUpTo (INPUT_BYTES + 1) (S.left source.old) (S.left source.new)) }
     ensures words { IsOfNoJob (map string_bytes words.now) → IsOk result }
@@ -100,6 +111,8 @@ fn verdict_of<S: Source, T: Station>(
     ensures looked { T.tells → (journal : List ℕ) → Spells (jobs.Show journal) (map string_bytes words.now) → LooksAt journal (T.told station.old) (T.told station.new) }
     ensures served { T.tells → (role : RoleValue) (names : NamesValue) → SpellsEnd role names (map string_bytes words.now)
         → IsIdle names (T.told station.old) (T.told station.new) ⊎ HasServed role names (read_of S.left S.faults source.old source.new) (T.told station.old) (T.told station.new) }
+    ensures kept { (AsksReplay (map string_bytes words.now) → ⊥) → world.new ≡ world.old }
+    ensures unplayed { OnErr result (world.new ≡ world.old) }
     ensures later { S.faults source.old ≤ S.faults source.new }
     ensures station_count { T.faults station.old ≤ T.faults station.new }
 {
@@ -109,6 +122,7 @@ fn verdict_of<S: Source, T: Station>(
         Ok(Job::Show(journal)) => show_journal(alloc, &journal, station),
         Ok(Job::Handheld(names)) => serve_end(alloc, Role::Supplier, &names, source, station),
         Ok(Job::Receiver(names)) => serve_end(alloc, Role::Receiver, &names, source, station),
+        Ok(Job::Replay) => replay(alloc, source, world),
         Err(WordsFault::Refused) => Ok(Verdict::Words),
         Err(WordsFault::Memory) => Err(AllocError),
     }

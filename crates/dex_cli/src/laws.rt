@@ -3,6 +3,7 @@
 ghost use Rattle.std.specs.Prelude.{◌≡◌, ◌≢◌, ℕ, List, Some};
 ghost use Rattle.dex_cli.specs.Verdicts.{Read, MayCome, status_of};
 ghost use Rattle.dex_cli.specs.Formatting.{Served};
+ghost use Rattle.dex_cli.specs.Replaying.{Worlds};
 ghost use Rattle.dex_cli.specs.Words.{AsksEnd, Spells};
 ghost use Rattle.dex_cli.specs.declared.verdict.Verdict.{Verdict};
 ghost use Rattle.dex_cli.specs.declared.verdict.Verdict.TheVariants.{SourceFault, StationFault};
@@ -14,11 +15,11 @@ pub fn one_job()
 {}
 
 /// For a source and a station that tell their bytes, the words and these bytes leave one status, faults of the source and
-/// of the station aside. That of an end goes by what it heard, too.
+/// of the station aside. That of an end goes by what it heard, too, and that of a `replay` is told by the world that it left.
 pub fn one_status()
-    ensures { (words : List (List ℕ)) (left after after' : List ℕ) (faults now now' : ℕ) (one other : Served) (a b : Verdict)
-        → (AsksEnd words → ⊥) → a ≢ SourceFault → a ≢ StationFault → b ≢ SourceFault → b ≢ StationFault → one.before.journal ≡ other.before.journal
-        → MayCome (Unit {0}) words (record { left = Some left; after = Some after; faults = faults; faults_after = now }) one a
-        → MayCome (Unit {0}) words (record { left = Some left; after = Some after'; faults = faults; faults_after = now' }) other b
+    ensures { (words : List (List ℕ)) (left after after' : List ℕ) (faults now now' : ℕ) (one other : Served) (here there : Worlds) (a b : Verdict)
+        → (AsksEnd words → ⊥) → a ≢ SourceFault → a ≢ StationFault → b ≢ SourceFault → b ≢ StationFault → one.before.journal ≡ other.before.journal → here.after ≡ there.after
+        → MayCome (Unit {0}) words (record { left = Some left; after = Some after; faults = faults; faults_after = now }) one here a
+        → MayCome (Unit {0}) words (record { left = Some left; after = Some after'; faults = faults; faults_after = now' }) other there b
         → status_of a ≡ status_of b }
 {}

@@ -16,6 +16,7 @@ pub mod laws;
 mod name;
 mod reasons;
 mod refusal;
+mod replaying;
 mod report;
 mod serving;
 mod show_words;
@@ -43,6 +44,3 @@ pub use summary::{SetForm, SetSummary};
 pub use text_summary::{TextEnding, TextSummary};
 pub use verdict::Verdict;
 pub use words::{CheckKind, Job, read_words};
-
-#[cfg(test)]
-mod tests;

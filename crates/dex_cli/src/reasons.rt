@@ -80,7 +80,7 @@ pub fn put_set_reason(
     }
 }
 
-/// Prints a reason against drafts or counts.
+/// Prints a reason against drafts, counts or a script.
 pub fn put_draft_reason(
     alloc: Global,
     out: &mut Vec<u8>,

@@ -25,7 +25,7 @@ pub enum Reason {
     Set(SetReason),
     /// A transmission is none.
     Envelope(EnvelopeReason),
-    /// Drafts or counts are none.
+    /// Drafts, counts or a script are none.
     Draft(DraftReason),
     /// A frame says another check than that of its bytes.
     Damaged,

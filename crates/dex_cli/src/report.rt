@@ -6,7 +6,7 @@ ghost use Rattle.std.specs.Fmt.{decimal};
 ghost use Rattle.dex_line.specs.Captured.{frames_in};
 ghost use Rattle.dex_cli.specs.Texts.{ending_text, frames_text, journal_text, printed, refused_line, set_text, sets_text};
 ghost use Rattle.end_report.specs.Lines.{line, both};
-ghost use Rattle.dex_cli.specs.Verdicts.{IsComposed, status_at, status_of as status, status_of_end, status_of_line};
+ghost use Rattle.dex_cli.specs.Verdicts.{IsComposed, status_at, status_of as status, status_of_end, status_of_line, status_of_world};
 
 use crate::check_line::put_captured;
 use crate::end_job::EndReport;
@@ -19,6 +19,7 @@ use crate::status::{
 use crate::summary::{SetSummary, put_set};
 use crate::text_summary::{TextSummary, put_text};
 use crate::verdict::Verdict;
+use cable_world::WorldReport;
 use dex_handshake::SessionEnd;
 use end_report::{Ending, put, put_bytes, put_count};
 use std::alloc::{AllocError, Global};
@@ -52,6 +53,7 @@ pub fn report_of(alloc: Global, verdict: &Verdict) -> Result<Report, AllocError>
         Verdict::NotAJournal(place) => of_journal_fault(alloc, "NOT A JOURNAL", *place),
         Verdict::Ran(end) => of_end(alloc, end),
         Verdict::Full(length) => of_full_journal(alloc, *length),
+        Verdict::Replayed(report) => of_world(alloc, report),
     }
 }
 
@@ -147,6 +149,22 @@ fn of_full_journal(alloc: Global, length: u64) -> Result<Report, AllocError>
     let mut out = Vec::new(alloc);
     put_count(alloc, &mut out, "FULL", length)?;
     Ok(made(out, JOURNAL_FULL))
+}
+
+fn of_world(alloc: Global, world: &WorldReport) -> Result<Report, AllocError>
+    ensures text { IfOk result (λ report. cow_slice_items report.text ≡ world.now.lines.items) }
+    ensures status { IfOk result (λ report. report.status ≡ status_of_world world.now.all_final) }
+{
+    let mut out = Vec::new(alloc);
+    put_bytes(&mut out, &world.lines)?;
+    Ok(made(out, status_of_played(world.all_final)))
+}
+
+/// The status of a script that was played.
+fn status_of_played(all_final: bool) -> u8
+    ensures { result ≡ status_of_world all_final }
+{
+    if all_final { DONE } else { OPEN }
 }
 
 /// The status of an end whose session ended so.

@@ -103,8 +103,8 @@ fn run_receiver<T: Station>(
     }
 }
 
-/// The verdict on choices that are refused.
-fn refused(place: usize, reason: DraftReason) -> Verdict
+/// The verdict on choices, or a script, that are refused.
+pub fn refused(place: usize, reason: DraftReason) -> Verdict
     ensures { result ≡ Verdict.Refused (record { place = place; reason = Reason.Draft reason }) }
 {
     Verdict::Refused(Refusal {

@@ -5,6 +5,7 @@ use crate::journal_summary::JournalSummary;
 use crate::refusal::Refusal;
 use crate::summary::SetSummary;
 use crate::text_summary::TextSummary;
+use cable_world::WorldReport;
 
 /// What a run comes to, before it is printed; want of memory aside.
 #[derive(Debug, Drop)]
@@ -35,4 +36,6 @@ pub enum Verdict {
     Full(u64),
     /// It holds none that are legal for the end whose journal it is, or which runs, and is refused at this place.
     NotAJournal(u64),
+    /// All events of a script were played, and this is printed of what both ends hold then.
+    Replayed(WorldReport),
 }

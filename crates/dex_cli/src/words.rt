@@ -34,6 +34,8 @@ pub enum Job {
     Handheld(EndNames),
     /// `receiver JOURNAL PORT`: runs the receiver's end, with the counts of the source.
     Receiver(EndNames),
+    /// `replay`: plays the script of the source, with both ends in memory.
+    Replay,
 }
 
 /// The job that the words, those after the program's name, spell. Only a journal's name takes memory.
@@ -50,6 +52,9 @@ pub fn read_words(alloc: Global, words: &[String]) -> Result<Job, WordsFault>
     }
     if are(words, "check", "line") {
         return Ok(Job::Check(CheckKind::Line));
+    }
+    if is_only(words, "replay") {
+        return Ok(Job::Replay);
     }
     read_journal_job(alloc, words)
 }
@@ -84,6 +89,16 @@ fn read_end_job(alloc: Global, words: &[String]) -> Result<Job, WordsFault>
             Err(fault) => Err(fault),
         },
         Err(WordsFault::Memory) => Err(WordsFault::Memory),
+    }
+}
+
+/// Whether there is one word, which is this.
+fn is_only(words: &[String], wanted: &str) -> bool
+    ensures { IsTrue result ↔ (map string_bytes words.now ≡ wanted.now ∷ []) }
+{
+    match words {
+        [one] => one.as_str() == wanted,
+        _ => false,
     }
 }
 

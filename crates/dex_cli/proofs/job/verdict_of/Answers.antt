@@ -3,11 +3,13 @@ use Rattle.dsd_values.specs.declared.role.Role.{Role}
 use Rattle.dsd_values.specs.declared.role.Role.TheVariants.{Supplier, Receiver}
 use Rattle.dex_cli.specs.Ends.{IsIdle}
 use Rattle.dex_cli.specs.Formatting.{served_of}
+use Rattle.dex_cli.specs.Replaying.{worlds_of}
 use Rattle.dex_cli.specs.Verdicts.{HasServed, read_of}
 use Rattle.dex_cli.specs.declared.end_words.EndNames.{EndNames}
 use Rattle.dex_cli.specs.declared.words.Job.TheVariants as jobs
 use Rattle.dex_cli.proofs.ByInput.{still_idle}
-use Rattle.dex_cli.proofs.ServedEnds.{may_handheld, may_receiver, no_other, no_show, on_err, other_check, other_format, other_show, this_end}
+use Rattle.dex_cli.proofs.OneJob.{replay_only}
+use Rattle.dex_cli.proofs.ServedEnds.{may_handheld, may_receiver, may_replay, no_other, no_show, on_err, other_check, other_format, other_replay, other_show, this_end}
 use Rattle.dex_cli.proofs.job.verdict_of.Goals as goal
 
 pub returns-in-Err-Memory-clause-words : goal.returns-in-Err-Memory-clause-words
@@ -49,7 +51,7 @@ pub returns-in-Ok-Handheld-clause-may : goal.returns-in-Ok-Handheld-clause-may
 returns-in-Ok-Handheld-clause-may g c =
     let clauses = rw c.in-Ok-Handheld.field-0-is at c.in-Ok-Handheld.ensures in
     may_handheld g.T.Station.tells (map string_bytes c.args.words.now) (read_of g.S.Source.left g.S.Source.faults c.args.source.now c.serve_end.new.source)
-    (served_of g.T.Station.told g.T.Station.faults c.args.station.now c.serve_end.new.station) c.in-Ok-Handheld.names c.serve_end.result clauses.found c.serve_end.ensures.told
+    (served_of g.T.Station.told g.T.Station.faults c.args.station.now c.serve_end.new.station) (worlds_of c.args.world.now c.args.world.now) c.in-Ok-Handheld.names c.serve_end.result clauses.found c.serve_end.ensures.told
 
 pub returns-in-Ok-Handheld-clause-memory : goal.returns-in-Ok-Handheld-clause-memory
 returns-in-Ok-Handheld-clause-memory g c =
@@ -67,7 +69,7 @@ returns-in-Ok-Handheld-clause-words g c = λ none.
 pub returns-in-Ok-Handheld-clause-unread : goal.returns-in-Ok-Handheld-clause-unread
 returns-in-Ok-Handheld-clause-unread g c = λ none.
     let clauses = rw c.in-Ok-Handheld.field-0-is at c.in-Ok-Handheld.ensures in
-    absurd (none (inr (Supplier, c.in-Ok-Handheld.names, clauses.found)))
+    absurd (none (inr (inl (Supplier, c.in-Ok-Handheld.names, clauses.found))))
 
 pub returns-in-Ok-Handheld-clause-idle : goal.returns-in-Ok-Handheld-clause-idle
 returns-in-Ok-Handheld-clause-idle g c = λ none.
@@ -90,7 +92,7 @@ pub returns-in-Ok-Receiver-clause-may : goal.returns-in-Ok-Receiver-clause-may
 returns-in-Ok-Receiver-clause-may g c =
     let clauses = rw c.in-Ok-Receiver.field-0-is at c.in-Ok-Receiver.ensures in
     may_receiver g.T.Station.tells (map string_bytes c.args.words.now) (read_of g.S.Source.left g.S.Source.faults c.args.source.now c.serve_end-in-Ok-Receiver.new.source)
-    (served_of g.T.Station.told g.T.Station.faults c.args.station.now c.serve_end-in-Ok-Receiver.new.station) c.in-Ok-Receiver.names c.serve_end-in-Ok-Receiver.result clauses.found c.serve_end-in-Ok-Receiver.ensures.told
+    (served_of g.T.Station.told g.T.Station.faults c.args.station.now c.serve_end-in-Ok-Receiver.new.station) (worlds_of c.args.world.now c.args.world.now) c.in-Ok-Receiver.names c.serve_end-in-Ok-Receiver.result clauses.found c.serve_end-in-Ok-Receiver.ensures.told
 
 pub returns-in-Ok-Receiver-clause-memory : goal.returns-in-Ok-Receiver-clause-memory
 returns-in-Ok-Receiver-clause-memory g c =
@@ -108,7 +110,7 @@ returns-in-Ok-Receiver-clause-words g c = λ none.
 pub returns-in-Ok-Receiver-clause-unread : goal.returns-in-Ok-Receiver-clause-unread
 returns-in-Ok-Receiver-clause-unread g c = λ none.
     let clauses = rw c.in-Ok-Receiver.field-0-is at c.in-Ok-Receiver.ensures in
-    absurd (none (inr (Receiver, c.in-Ok-Receiver.names, clauses.found)))
+    absurd (none (inr (inl (Receiver, c.in-Ok-Receiver.names, clauses.found))))
 
 pub returns-in-Ok-Receiver-clause-idle : goal.returns-in-Ok-Receiver-clause-idle
 returns-in-Ok-Receiver-clause-idle g c = λ none.
@@ -122,3 +124,55 @@ returns-in-Err-Refused-clause-served g c = λ tells.
 
 pub returns-in-Err-Memory-clause-served : goal.returns-in-Err-Memory-clause-served
 returns-in-Err-Memory-clause-served g c = λ tells role names spells. inl (still_idle names (g.T.Station.told c.args.station.now))
+
+pub returns-in-Ok-Replay-clause-may : goal.returns-in-Ok-Replay-clause-may
+returns-in-Ok-Replay-clause-may g c =
+    let clauses = rw c.in-Ok-Replay.field-0-is at c.in-Ok-Replay.ensures in
+    may_replay g.T.Station.tells (map string_bytes c.args.words.now) (read_of g.S.Source.left g.S.Source.faults c.args.source.now c.replay.new.source)
+    (served_of g.T.Station.told g.T.Station.faults c.args.station.now c.args.station.now) (worlds_of c.args.world.now c.replay.new.world) c.replay.result clauses.found c.replay.ensures.told
+
+pub returns-in-Ok-Replay-clause-memory : goal.returns-in-Ok-Replay-clause-memory
+returns-in-Ok-Replay-clause-memory g c = on_err c.replay.result _ (inl refl)
+
+pub returns-in-Ok-Replay-clause-taken : goal.returns-in-Ok-Replay-clause-taken
+returns-in-Ok-Replay-clause-taken g c = c.replay.ensures.taken
+
+pub returns-in-Ok-Replay-clause-words : goal.returns-in-Ok-Replay-clause-words
+returns-in-Ok-Replay-clause-words g c = λ none.
+    let clauses = rw c.in-Ok-Replay.field-0-is at c.in-Ok-Replay.ensures in
+    absurd (none jobs.Replay clauses.found)
+
+pub returns-in-Ok-Replay-clause-unread : goal.returns-in-Ok-Replay-clause-unread
+returns-in-Ok-Replay-clause-unread g c = λ none.
+    let clauses = rw c.in-Ok-Replay.field-0-is at c.in-Ok-Replay.ensures in
+    absurd (none (inr (inr clauses.found)))
+
+pub returns-in-Ok-Replay-clause-looked : goal.returns-in-Ok-Replay-clause-looked
+returns-in-Ok-Replay-clause-looked g c = λ tells journal show.
+    let clauses = rw c.in-Ok-Replay.field-0-is at c.in-Ok-Replay.ensures in
+    absurd ((replay_only (map string_bytes c.args.words.now) clauses.found).2 (journal, show))
+
+pub returns-in-Ok-Replay-clause-served : goal.returns-in-Ok-Replay-clause-served
+returns-in-Ok-Replay-clause-served g c = λ tells.
+    let clauses = rw c.in-Ok-Replay.field-0-is at c.in-Ok-Replay.ensures in
+    other_replay (map string_bytes c.args.words.now) _ clauses.found
+
+pub returns-in-Ok-Replay-clause-kept : goal.returns-in-Ok-Replay-clause-kept
+returns-in-Ok-Replay-clause-kept g c = λ none.
+    let clauses = rw c.in-Ok-Replay.field-0-is at c.in-Ok-Replay.ensures in
+    absurd (none clauses.found)
+
+pub returns-in-Ok-Replay-clause-unplayed : goal.returns-in-Ok-Replay-clause-unplayed
+returns-in-Ok-Replay-clause-unplayed g c = c.replay.ensures.kept
+
+pub returns-in-Ok-Handheld-clause-unplayed : goal.returns-in-Ok-Handheld-clause-unplayed
+returns-in-Ok-Handheld-clause-unplayed g c = on_err c.serve_end.result _ refl
+
+pub returns-in-Ok-Receiver-clause-unplayed : goal.returns-in-Ok-Receiver-clause-unplayed
+returns-in-Ok-Receiver-clause-unplayed g c = on_err c.serve_end-in-Ok-Receiver.result _ refl
+
+pub returns-in-Ok-Check-clause-unplayed : goal.returns-in-Ok-Check-clause-unplayed
+returns-in-Ok-Check-clause-unplayed g c = on_err c.check.result _ refl
+
+pub returns-in-Ok-Show-clause-unplayed : goal.returns-in-Ok-Show-clause-unplayed
+returns-in-Ok-Show-clause-unplayed g c = on_err c.show_journal.result _ refl

@@ -1,0 +1,33 @@
+-- What the job that plays a script leaves.
+use Rattle.std.specs.Prelude.{◌≡◌, Option, Some}
+use Rattle.cable_world.specs.WorldReports.{IsReportOf}
+use Rattle.cable_world.specs.Worlds.{HasPlayed, WorldView}
+use Rattle.cable_world.specs.declared.script.Script.{Script}
+use Rattle.cable_world.specs.declared.stage.Stage.TheVariants.{Finished}
+use Rattle.cable_world.specs.declared.world_report.WorldReport.{WorldReport}
+use Rattle.dex_cli.specs.declared.verdict.Verdict.{Verdict}
+use Rattle.dex_cli.specs.declared.verdict.Verdict.TheVariants as verdicts
+
+-- the world that the caller had before, and the one that it has after
+pub record Worlds : Type 0 where
+  pub before : Option WorldView
+  pub after : Option WorldView
+
+abbrev pub worlds_of : Option WorldView → Option WorldView → Worlds
+worlds_of old new = record { before = old; after = new }
+
+-- All events of the script were played on this world: its steps obey the script, each event with its effect. The report is of the images that it has.
+pub record HasReplayed (script : Script) (world : WorldView) (report : WorldReport) : Type 0 where
+  pub script_is : world.script ≡ script
+  pub finished : world.stage ≡ Finished
+  pub played : HasPlayed world
+  pub reported : IsReportOf world report
+
+-- such a world is left
+abbrev pub IsReplayed : Script → Worlds → WorldReport → Type 0
+IsReplayed script worlds report = (world : WorldView) × (worlds.after ≡ Some world) × HasReplayed script world report
+
+-- the verdict that tells of this world
+abbrev pub IsToldOfWorld : Script → Worlds → Verdict → Type 0
+IsToldOfWorld script worlds (verdicts.Replayed report) = IsReplayed script worlds report
+IsToldOfWorld script worlds _ = ⊥
