@@ -6,7 +6,9 @@ Its last line is 'N passed, N failed'; its status is 1 where one failed. A check
 as skipped: run as root, those of rights are made as nobody.
 """
 import fcntl
+import functools
 import os
+import pty
 import pwd
 import random
 import resource
@@ -14,7 +16,9 @@ import shutil
 import subprocess
 import sys
 import tempfile
+import termios
 import time
+import tty
 
 HEADER = b"DEXJ1H" + b"HH00000001" + b"RR00000001" + b"\n\0"
 OTHER = b"DEXJ1H" + b"HH00000002" + b"RR00000002" + b"\n\0"
@@ -204,6 +208,7 @@ def remainder_of(value):
 REMAINDERS = [remainder_of(byte) for byte in range(256)]
 
 
+@functools.cache
 def padded(number, size):
     """A delivery of no line with this many bytes in all, most of them in references, and its integrity value."""
     head = b"ST*894*0001\r\nG82*D*%d*****20240229\r\n" % number
@@ -222,26 +227,33 @@ def padded(number, size):
     return text + b"G85*%s\r\nSE*%d*0001\r\n" % (check, segments), check
 
 
+def filled(length):
+    """A receiver's journal of so many bytes: the pieces of its image, and the numbers and integrity values of its deliveries."""
+    image, taken = [b"DEXJ1RRR00000001HH00000001\n"], []
+    left = length - len(image[0]) - 1
+    while left:
+        size = min(262_144, left - 6) if not 262_150 < left < 262_400 else 200_000
+        text, check = padded(len(taken) + 1, size)
+        assert len(text) == size, (len(text), size)
+        image.append(taken_entry(text))
+        taken.append((len(taken) + 1, check))
+        left -= 6 + size
+    return [*image, b"\0"], taken
+
+
+def taken_entry(text):
+    return b"\xa5T" + len(text).to_bytes(4, "big") + text
+
+
 def longest():
     """A receiver's journal of as many bytes as one may have, shown; and with one byte more, refused at the last entry."""
-    head = b"DEXJ1RRR00000001HH00000001\n"
-    lines = [b"JOURNAL RECEIVER RR00000001 HH00000001\n"]
-    image = [head]
-    left = JOURNAL_BYTES - len(head) - 1
-    number = 0
-    while left:
-        number += 1
-        size = min(262_144, left - 6) if not 262_150 < left < 262_400 else 200_000
-        text, check = padded(number, size)
-        assert len(text) == size, (len(text), size)
-        image.append(b"\xa5T" + size.to_bytes(4, "big") + text)
-        lines.append(b"%d TOOK 894 0001 %d LEVEL 0 CHECK %s\n" % (number, number, check))
-        left -= 6 + size
-    lines.append(b"ENTRIES %d\n" % number)
-    whole = b"".join(image) + b"\0"
-    show("a show of a journal of 67,108,864 bytes", whole, output=b"".join(lines))
-    last, _ = padded(number, size + 1)
-    longer = b"".join(image[:-1]) + b"\xa5T" + len(last).to_bytes(4, "big") + last + b"\0"
+    image, taken = filled(JOURNAL_BYTES)
+    lines = [b"%d TOOK 894 0001 %d LEVEL 0 CHECK %s\n" % (number, number, check) for number, check in taken]
+    whole = b"".join(image)
+    shown = b"JOURNAL RECEIVER RR00000001 HH00000001\n" + b"".join(lines) + b"ENTRIES %d\n" % len(taken)
+    show("a show of a journal of 67,108,864 bytes", whole, output=shown)
+    size = len(image[-2]) - 6
+    longer = b"".join(image[:-2]) + taken_entry(padded(len(taken), size + 1)[0]) + b"\0"
     show("a show of a journal of one byte more", longer, **refused(len(whole) - 1 - size - 5))
     show("a show of it, cut short by one byte", whole[:-1], **refused(len(whole) - 1))
 
@@ -367,6 +379,47 @@ def synced():
     told("a folder is synced", [] if any("fsync" in line and folder in line for line in lines[made[-1] : put[0]]) else ["it is not"])
 
 
+def hung_up(words, text):
+    """The status and the output of the program on a terminal whose other end says a text and hangs up, so that a read behind it fails."""
+    other, own = pty.openpty()
+    tty.setraw(own)
+    one = subprocess.Popen([PROGRAM, *words], stdin=own, stdout=subprocess.PIPE)
+    os.close(own)
+    os.write(other, text)
+    # (what was not read yet would be lost)
+    while not int.from_bytes(fcntl.ioctl(other, termios.TIOCOUTQ, bytes(4)), "little") == 0:
+        time.sleep(0.01)
+    time.sleep(0.2)
+    os.close(other)
+    return one.wait(20), one.stdout.read()
+
+
+def broken():
+    """Standard input that fails at once or in mid-stream, a report with room for a part of it, and a journal that cannot be synced."""
+    fault = b"FAULT SOURCE\n"
+    for job in ("set", "text", "line"):
+        got, printed = run(["check", job], "< .")
+        told(f"check {job} of a folder", unlike(got, printed, (4,), fault))
+        got, printed = hung_up(["check", job], b"\x05\x100")
+        told(f"check {job} of a line that hangs up", unlike(got, printed, (4,), fault))
+    limit = {"preexec_fn": lambda: resource.setrlimit(resource.RLIMIT_FSIZE, (3, 3)), "restore_signals": False}
+    write("delivery", DELIVERY)
+    got, _ = run(["check", "set"], "< delivery > report", **limit)
+    told("a report with room for three bytes", unlike(got, content("report"), (5,), b"SET"))
+    for number in (1, 2):
+        words = ["strace", "-f", "-o", "/dev/null", "-e", f"inject=fsync,fdatasync:error=EIO:when={number}", PROGRAM, *format_words("unsynced.dex")]
+        try:
+            done = subprocess.run(words, capture_output=True, stdin=subprocess.DEVNULL, timeout=20)
+        except (OSError, subprocess.TimeoutExpired):
+            done = None
+        if done is None or b"strace" in done.stderr:
+            print("skipped: a sync that fails (no trace of the program)")
+        else:
+            told(f"a journal whose sync {number} fails", unlike(done.returncode, done.stdout, (6,), FAULT))
+        if os.path.exists("unsynced.dex"):
+            os.unlink("unsynced.dex")
+
+
 def race():
     """Two formats of one name at once: one makes the journal, and what it made stands."""
     wrong = []
@@ -439,11 +492,13 @@ def ports():
     os.symlink("end.dex", "another name")
     ends("an end on its journal by another name", end_words(port="another name"))
     os.unlink("another name")
+    ends("an end whose port is its journal", end_words(port="end.dex"))
     ends("an end whose output is full", end_words(), redirect="> /dev/full", status=5, output=b"")
     ends("an end whose output is closed", end_words(), redirect=">&-", status=5, output=b"")
 
 
-def main():
+def main(parts):
+    """Runs these checks in a folder of their own, which has the program, and prints how many passed."""
     program = os.path.abspath(sys.argv[1] if len(sys.argv) > 1 else "crates/dex/out/dex")
     with tempfile.TemporaryDirectory() as folder:
         shutil.copy(program, folder)
@@ -454,7 +509,7 @@ def main():
         if os.geteuid() == 0:
             nobody = pwd.getpwnam("nobody")
             rights.update(user=nobody.pw_uid, group=nobody.pw_gid, extra_groups=[])
-        for part in (plain, closed, standard, others, held, denied, full, synced, race, killed, shown, shows_at_once, longest, ports):
+        for part in parts:
             part()
         os.chdir("/")
     print(f"{passed} passed, {failed} failed")
@@ -462,4 +517,4 @@ def main():
 
 
 if __name__ == "__main__":
-    sys.exit(main())
+    sys.exit(main((plain, closed, standard, others, held, denied, full, broken, synced, race, killed, shown, shows_at_once, longest, ports)))

@@ -15,6 +15,3 @@ pub use from_text::read_895;
 pub use head::AnswerHead;
 pub use writing::{write_895, write_sealed_895};
 pub use writing_laws::written_is_read;
-
-#[cfg(test)]
-mod tests;

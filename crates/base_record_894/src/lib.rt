@@ -18,6 +18,3 @@ pub use head::BaseHead;
 pub use notes::Notes;
 pub use writing::{write_894, write_sealed_894};
 pub use writing_laws::written_is_read;
-
-#[cfg(test)]
-mod tests;

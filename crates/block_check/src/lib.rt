@@ -4,8 +4,6 @@
 mod check;
 mod running;
 mod tables;
-#[cfg(test)]
-mod tests;
 
 pub use check::check_of;
 pub use running::Running;

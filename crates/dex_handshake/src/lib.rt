@@ -10,8 +10,6 @@ mod session_end;
 mod stage;
 mod states;
 mod taking;
-#[cfg(test)]
-mod tests;
 mod text_load;
 
 pub use session::{Session, Step};

@@ -11,8 +11,6 @@ pub mod laws;
 mod lent;
 mod scanner;
 mod spelling;
-#[cfg(test)]
-mod tests;
 mod units;
 
 pub use cutter::{BLOCK_WRITTEN, Cutter};

@@ -25,6 +25,3 @@ pub use journal::Journal;
 pub use laws::{an_image_holds_one_list, an_image_is_held_or_refused};
 pub use limits::{FORMATTED_BYTES, HEADER_BYTES, JOURNAL_BYTES, MOST_ENTRIES};
 pub use opening::{OpenFault, open_journal};
-
-#[cfg(test)]
-mod tests;

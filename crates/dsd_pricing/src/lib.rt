@@ -10,6 +10,3 @@ pub use amounts::{Totals, amount_of, quantities, sum_of};
 pub use effects::effect_of;
 pub use extensions::extension;
 pub use fault::{PriceFault, WriteFault};
-
-#[cfg(test)]
-mod tests;

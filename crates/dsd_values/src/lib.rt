@@ -57,6 +57,3 @@ pub use writers::{
     write_cents, write_check, write_cost, write_day, write_dsd, write_level, write_percent,
     write_plain_number, write_quantity, write_total_quantity,
 };
-
-#[cfg(test)]
-mod tests;

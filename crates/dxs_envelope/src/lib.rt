@@ -19,6 +19,3 @@ pub use outgoing::{EnvelopeWriteFault, Outgoing, TRANSMISSION_BYTES};
 pub use sets::Sets;
 pub use slice::SetSlice;
 pub use writing::write_transmission;
-
-#[cfg(test)]
-mod tests;

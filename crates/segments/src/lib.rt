@@ -49,6 +49,3 @@ pub use sound_laws::{sound_extras, sound_lines};
 pub use stated::{Closed, StatedTotals};
 pub use texts::{MOST_CONTROL_NUMBER, flag_letter};
 pub use writing_laws::written_segments_are_read;
-
-#[cfg(test)]
-mod tests;

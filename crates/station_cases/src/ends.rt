@@ -1,9 +1,6 @@
-use dsd_station::{
-    Failed, MemorySink, MemorySource, Sink, Source, StdSink, StdSource, read_up_to, write_all,
-};
+use dsd_station::{Failed, Sink, Source, StdSink, StdSource};
 use std::io;
 use std::io::{ErrorKind, Read, Write};
-use std::test::Fail;
 
 /// Reads and writes two bytes a call. A signal interrupts the second call, and the fourth fails.
 #[derive(Drop)]
@@ -40,9 +37,9 @@ impl Write for Shaky {
     }
 }
 
-/// A signal is no fault. 40,000 bytes come in three reads, a fourth says that they end, and there is no fifth.
+/// A signal is no fault.
 #[test]
-fn a_source_and_a_sink_are_asked_until_they_answer(rt: HostRuntime) -> Result<(), Fail> {
+fn a_source_and_a_sink_are_asked_until_they_answer(rt: HostRuntime) {
     let mut source = StdSource::new(Shaky { calls: 0 });
     let mut sink = StdSink::new(Shaky { calls: 0 });
     let mut into = [0u8; 4];
@@ -50,11 +47,4 @@ fn a_source_and_a_sink_are_asked_until_they_answer(rt: HostRuntime) -> Result<()
         let read = source.read(&mut into);
         assert!(rt; read == wanted && sink.write(b"abcd") == wanted);
     }
-    let bytes = vec![in rt.alloc(); b'x'; 40_000]?;
-    let mut source = MemorySource::new(rt.alloc(), &bytes, &[5])?;
-    let read = read_up_to(rt.alloc(), &mut source, 50_000).map(|all| all.len());
-    let mut sink = MemorySink::new(rt.alloc(), 4, &[])?;
-    let written = write_all(&mut sink, b"abcde");
-    assert!(rt; read == Ok(40_000) && written.is_err() && sink.written() == b"abcd".as_slice());
-    Ok(())
 }

@@ -1,5 +1,5 @@
-//! What no clause of `dsd_station` says, tried on real files and on readers that fail. It stands in a crate of its own,
-//! as a crate with tests is proved twice.
+//! What no clause of `dsd_station` says and no run of the program shows: calls that a signal interrupts, and a file station
+//! without its files. It stands in a crate of its own, as a crate with tests is proved twice.
 #![tactic(auto)]
 
 #[cfg(test)]
