@@ -8,6 +8,7 @@ use Rattle.dsd_station.specs.declared.failed.Failed.{Failed}
 use Rattle.dsd_record.specs.Choices.{Chooser}
 use Rattle.dsd_journal.specs.Devices.{KeepsTalk, Opens, since}
 use Rattle.dsd_journal.specs.JournalImage.{Holds}
+use Rattle.dsd_journal.specs.Journals.{Rests}
 use Rattle.dsd_journal.specs.declared.entry.Entry.{Entry}
 use Rattle.dsd_journal.specs.declared.header.Header.{Header}
 use Rattle.dsd_end.specs.FullTurns.{RunFull}
@@ -17,7 +18,7 @@ use Rattle.dsd_end.specs.Standings.{Standing, first_standing}
 use Rattle.end_report.specs.Reports.{are_final, report_text}
 use Rattle.end_report.specs.declared.ending.Ending.{Ending}
 use Rattle.end_report.specs.declared.ending.LastRun.TheVariants as runs
-use Rattle.dex_cli.specs.Ends.{Ends, EndsSo, IsIdle, IsReported, IsRunning, IsToldOfEnd, Opening, Polls, RestsSo}
+use Rattle.dex_cli.specs.Ends.{Ends, EndsSo, IsIdle, IsReported, IsRunning, IsToldOfEnd, Opening, Polls}
 use Rattle.dex_cli.specs.Formatting.{Served}
 use Rattle.dex_cli.specs.Showing.{LeavesAlone}
 use Rattle.dex_cli.specs.declared.end_words.EndNames.{EndNames}
@@ -28,14 +29,14 @@ use Rattle.dex_cli.proofs.Rereading.{alone_by, alone_then, opening_alone}
 
 -- what is told of an end is what its polls came to
 pub told_so : {E : Type 0} (tells : Type 0) (chooser other : Chooser) (first last : Standing) (served : Served) (ending : Ending) (header : Header) (entries : List Entry) (result : Result Verdict E)
-    → other ≡ chooser → EndsSo ending tells chooser first last served.before served.after → RestsSo ending tells header entries served.after
+    → other ≡ chooser → EndsSo ending tells chooser first last served.before served.after → (tells → Rests header entries served.after)
     → IfOk result (IsToldOfEnd entries other.drafts last.desk.refused ending) → IfOk result (Polls tells chooser first last served)
 told_so tells chooser other first last served ending header entries (Err fault) same ends rests told = tt
 told_so tells chooser other first last served ending header entries (Ok (verdicts.Ran report)) same ends rests told = record {
   ends = subst (λ (e : Ending). EndsSo e tells chooser first last served.before served.after) (sym told.ending_is) ends;
   header = header;
   entries = entries;
-  rests = subst (λ (e : Ending). RestsSo e tells header entries served.after) (sym told.ending_is) rests;
+  rests = rests;
   report_is = record {
     text = told.text ∙ ap (λ (c : Chooser). report_text entries c.drafts last.desk.refused (runs.Ended ending)) same ∙ ap (λ (e : Ending). report_text entries chooser.drafts last.desk.refused (runs.Ended e)) (sym told.ending_is);
     ending_is = refl;

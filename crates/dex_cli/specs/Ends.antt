@@ -1,5 +1,5 @@
 -- What the job of an end does to its station, and what it comes to.
-use Rattle.std.specs.Prelude.{◌≡◌, ◌⊎◌, ℕ, List, Ok, Err}
+use Rattle.std.specs.Prelude.{◌≡◌, ◌⊎◌, ℕ, false, List, Ok, Err}
 use Rattle.base_record_894.specs.BaseRecord.{BaseRecord}
 use Rattle.dsd_values.specs.declared.role.Role.{Role}
 use Rattle.dsd_values.specs.declared.role.Role.TheVariants.{Supplier, Receiver}
@@ -26,7 +26,7 @@ use Rattle.receiver_core.specs.Reading.{counts_of}
 use Rattle.receiver_core.specs.declared.count.Count.{Count}
 use Rattle.dsd_end.specs.EndFaults.{IsNoise}
 use Rattle.dsd_end.specs.FullTurns.{RunFull}
-use Rattle.dsd_end.specs.Polls.{HearsMore, PolledAlong}
+use Rattle.dsd_end.specs.Polls.{HearsMore, PolledAlong, with_flags}
 use Rattle.dsd_end.specs.RunSoFar.{Runs}
 use Rattle.dsd_end.specs.Standings.{Standing, first_standing}
 use Rattle.end_report.specs.Reports.{are_final, report_text}
@@ -93,15 +93,10 @@ pub record HasRun (role : Role) (chooser : Chooser) (names : EndNames) (before a
 
 -- ---- what a session came to
 
--- It ended so by the steps over what was heard; or so many bytes were heard that it was noise.
+-- It ended so by the steps over what was heard; or these lead to where so many bytes were heard that it is noise.
 abbrev pub EndsSo : Ending → Type 0 → Chooser → Standing → Standing → Told → Told → Type 0
 EndsSo (endings.Session end) tells chooser first last opened after = (last.line ≡ Ended end) × PolledAlong tells chooser first last opened after
-EndsSo endings.Noise tells chooser first last opened after = (count : ℕ) × IsNoise last count
-
--- the journal holds these entries, and then they survive each stop
-abbrev pub RestsSo : Ending → Type 0 → Header → List Entry → Told → Type 0
-RestsSo (endings.Session end) tells header entries after = tells → Rests header entries after
-RestsSo endings.Noise tells header entries after = Unit {0}
+EndsSo endings.Noise tells chooser first last opened after = ((count : ℕ) × IsNoise last count) × PolledAlong tells chooser first (with_flags last false false) opened after
 
 -- This is printed of these entries and these drafts.
 pub record IsReportOf (entries : List Entry) (drafts : List BaseRecord) (refused : ℕ) (ending : Ending) (report : EndReport) : Type 0 where
@@ -119,7 +114,8 @@ pub record IsReported (tells : Type 0) (chooser : Chooser) (first last : Standin
   pub ends : EndsSo report.ending tells chooser first last opened after
   pub header : Header
   pub entries : List Entry
-  pub rests : RestsSo report.ending tells header entries after
+  -- the journal holds these entries, and then they survive each stop
+  pub rests : tells → Rests header entries after
   pub report_is : IsReportOf entries chooser.drafts last.desk.refused report.ending report
 
 -- What the polls of an end that was opened come to.
