@@ -9,6 +9,7 @@ use Rattle.dsd_record.specs.Choices.{Chooser}
 use Rattle.dsd_journal.specs.Devices.{KeepsTalk, Opens, since}
 use Rattle.dsd_journal.specs.JournalImage.{Holds}
 use Rattle.dsd_journal.specs.Journals.{Rests}
+use Rattle.delivery_book.specs.Signing.{Legal}
 use Rattle.dsd_journal.specs.declared.entry.Entry.{Entry}
 use Rattle.dsd_journal.specs.declared.header.Header.{Header}
 use Rattle.dsd_end.specs.FullTurns.{RunFull}
@@ -29,13 +30,14 @@ use Rattle.dex_cli.proofs.Rereading.{alone_by, alone_then, opening_alone}
 
 -- what is told of an end is what its polls came to
 pub told_so : {E : Type 0} (tells : Type 0) (chooser other : Chooser) (first last : Standing) (served : Served) (ending : Ending) (header : Header) (entries : List Entry) (result : Result Verdict E)
-    → other ≡ chooser → EndsSo ending tells chooser first last served.before served.after → (tells → Rests header entries served.after)
+    → other ≡ chooser → EndsSo ending tells chooser first last served.before served.after → entries ≡ last.desk.entries → (tells → Rests header entries served.after)
     → IfOk result (IsToldOfEnd entries other.drafts last.desk.refused ending) → IfOk result (Polls tells chooser first last served)
-told_so tells chooser other first last served ending header entries (Err fault) same ends rests told = tt
-told_so tells chooser other first last served ending header entries (Ok (verdicts.Ran report)) same ends rests told = record {
+told_so tells chooser other first last served ending header entries (Err fault) same ends own rests told = tt
+told_so tells chooser other first last served ending header entries (Ok (verdicts.Ran report)) same ends own rests told = record {
   ends = subst (λ (e : Ending). EndsSo e tells chooser first last served.before served.after) (sym told.ending_is) ends;
   header = header;
   entries = entries;
+  own = own;
   rests = rests;
   report_is = record {
     text = told.text ∙ ap (λ (c : Chooser). report_text entries c.drafts last.desk.refused (runs.Ended ending)) same ∙ ap (λ (e : Ending). report_text entries chooser.drafts last.desk.refused (runs.Ended e)) (sym told.ending_is);
@@ -43,7 +45,7 @@ told_so tells chooser other first last served ending header entries (Ok (verdict
     settled = told.settled ∙ ap (λ (c : Chooser). are_final entries c.drafts) same;
   };
 }
-told_so tells chooser other first last served ending header entries (Ok _) same ends rests told = absurd told
+told_so tells chooser other first last served ending header entries (Ok _) same ends own rests told = absurd told
 
 -- ---- an attachment
 
@@ -77,10 +79,10 @@ module _ (names : EndNames) (a b : Told) (attached : Attaches names.journal name
   idle_opened F c opens = idle_behind c (opening_alone F b c opens) opens.keeps
 
   -- and polls behind that
-  pub running : (role : Role) (chooser : Chooser) (header : Header) (first : List Entry) (last : Standing) (c d : Told) → header.role ≡ role → Opens ⊥ b c → Holds header first c.journal
+  pub running : (role : Role) (chooser : Chooser) (header : Header) (first : List Entry) (last : Standing) (c d : Told) → header.role ≡ role → Legal role first → Opens ⊥ b c → Holds header first c.journal
       → HearsMore c d → Runs chooser first (since b) last d → IsRunning role chooser names (record { header = header; first = first; attached = b; opened = c }) last a d
-  running role chooser header first last c d own opens holds hears runs = record {
-    opening_is = record { attaches = attached; opens = opens; own = own; holds = subst (λ (image : List ℕ). Holds header first image) (opens.journal ∙ attached.ok.journal) holds };
+  running role chooser header first last c d own legal opens holds hears runs = record {
+    opening_is = record { attaches = attached; opens = opens; own = own; legal = legal; holds = subst (λ (image : List ℕ). Holds header first image) (opens.journal ∙ attached.ok.journal) holds };
     plugged = record {
       journal_name = hears.keeps.journal_name ∙ opens.keeps.journal_name ∙ attached.ok.journal_name;
       port_name = hears.keeps.port_name ∙ opens.keeps.port_name ∙ attached.ok.port_name;

@@ -3,6 +3,8 @@ pub mod Two
 mod ShowWords
 pub mod Five
 pub mod OneJob
+mod OnePolls
+mod OneEnds
 mod Replayed
 mod OneReplay
 pub mod OneStatus

@@ -10,12 +10,15 @@ use Rattle.dex_cli.specs.Summaries.{IsNoSet, SumsUp}
 use Rattle.dex_cli.specs.declared.summary.SetSummary.{SetSummary}
 use Rattle.dex_cli.specs.declared.text_summary.TextEnding.{TextEnding}
 use Rattle.dex_cli.specs.declared.text_summary.TextEnding.TheVariants as endings
+use Rattle.dsd_values.specs.declared.role.Role.{Role}
 use Rattle.dsd_values.specs.declared.role.Role.TheVariants.{Supplier, Receiver}
+use Rattle.dex_cli.specs.EndWords.{SpellsEnd}
+use Rattle.dex_cli.specs.declared.end_words.EndNames.{EndNames}
 use Rattle.dex_cli.specs.Words.{AsksEnd, Spells}
 use Rattle.dex_cli.specs.Formatting.{Served, Formats}
 use Rattle.dex_cli.specs.Showing.{Shows, IsNotAJournal}
 use Rattle.dex_cli.specs.Replaying.{Worlds}
-use Rattle.dex_cli.specs.Verdicts.{IsInput, ReplaysInput, ChecksSet, ChecksText, ChecksLine, Read, IsChecked, Does, MayCome, status_at, status_of, status_of_line}
+use Rattle.dex_cli.specs.Verdicts.{IsInput, ReplaysInput, ServesEnd, ServesInput, ChecksSet, ChecksText, ChecksLine, Read, IsChecked, Does, MayCome, status_at, status_of, status_of_line}
 use Rattle.dex_cli.specs.declared.verdict.Verdict.{Verdict}
 use Rattle.dex_cli.specs.declared.verdict.Verdict.TheVariants as verdicts
 use Rattle.dex_cli.specs.declared.refusal.Reason.{Reason}
@@ -27,7 +30,9 @@ use Rattle.dex_cli.specs.declared.words.CheckKind.{CheckKind}
 use Rattle.dex_cli.specs.declared.words.CheckKind.TheVariants as checks
 use Rattle.dex_cli.specs.declared.format_words.NewJournal.{NewJournal}
 use Rattle.dex_cli.proofs.LegalSets.{shown_is_none}
-use Rattle.dex_cli.proofs.OneJob.{check_is_format, check_is_show, one_kind, replay_only, show_is_format}
+use Rattle.dex_cli.proofs.OneJob.{check_is_format, check_is_show, end_only, one_kind, replay_only, same_end, show_is_format}
+use Rattle.dex_cli.proofs.OneEnds.{end_input_long, end_input_one}
+use Rattle.dex_cli.proofs.ServedEnds.{no_other}
 use Rattle.dex_cli.proofs.OneReplay.{input_long, input_one}
 use Rattle.dex_cli.specs.declared.status.TheConstants.{DONE, INPUT_REFUSED}
 
@@ -280,3 +285,45 @@ pub one_status : (words : List (List ℕ)) (left after after' : List ℕ) (fault
     → MayCome (Unit {0}) words (record { left = Some left; after = Some after'; faults = faults; faults_after = now' }) other there b
     → status_of a ≡ status_of b
 one_status words left after after' faults now now' one other here there a b no_end f f' g g' same left_same p q = by_words words left after after' faults now now' one other here there a b no_end f f' g g' same left_same p q
+
+-- ---- the jobs of an end
+
+serves_end : (words : List (List ℕ)) (role : Role) (names : EndNames) → SpellsEnd role names words → (given : Read) (served : Served) (worlds : Worlds) (v : Verdict) (job : Job) → Spells job words
+    → Does (Unit {0}) job given served worlds v → ServesEnd (Unit {0}) role names given served v
+serves_end words role names asked given served worlds v (jobs.Check kind) s d = absurd ((end_only role names words asked).0 (kind, s))
+serves_end words role names asked given served worlds v (jobs.Format new) s d = absurd ((end_only role names words asked).1 (new, s))
+serves_end words role names asked given served worlds v (jobs.Show journal) s d = absurd ((end_only role names words asked).2 (journal, s))
+serves_end words role names asked given served worlds v jobs.Replay s d = absurd ((replay_only words s).3 (role, names, asked))
+serves_end words role names asked given served worlds v (jobs.Handheld names') s d =
+    same_end words Supplier role names' names (λ (r : Role) (its : EndNames). ServesEnd (Unit {0}) r its given served v) s asked d
+serves_end words role names asked given served worlds v (jobs.Receiver names') s d =
+    same_end words Receiver role names' names (λ (r : Role) (its : EndNames). ServesEnd (Unit {0}) r its given served v) s asked d
+
+module _ (words : List (List ℕ)) (role : Role) (names : EndNames) (left after after' : List ℕ) (faults now now' : ℕ) (one other : Served) (here there : Worlds) (a b : Verdict) (f : a ≢ verdicts.SourceFault) (f' : a ≢ verdicts.StationFault)
+    (m : (n : ℕ) → a ≢ verdicts.Full n) (g : b ≢ verdicts.SourceFault) (g' : b ≢ verdicts.StationFault) (n : (n : ℕ) → b ≢ verdicts.Full n) (same : one.before.journal ≡ other.before.journal)
+    (same_before : one.before.heard ≡ other.before.heard) (same_after : one.after.heard ≡ other.after.heard) where
+  end_job : ServesEnd (Unit {0}) role names (read left after after' faults now now' one other here there a b) one a
+      → ServesEnd (Unit {0}) role names (read' left after after' faults now now' one other here there a b) other b → status_of a ≡ status_of b
+  end_job (inl unread) q = absurd (f unread.0.verdict_is)
+  end_job (inr x) (inl unread) = absurd (g unread.0.verdict_is)
+  end_job (inr x) (inr y) = elim (inputs left after after' x.0 y.0 x.1 y.1) [
+    | inl is ↦ end_input_one role names one other same same_before same_after y.0 a b f' g' m n (subst (λ (t : List ℕ). ServesInput (Unit {0}) role names t one a) is x.2) y.2
+    | inr long ↦ end_input_long role names one other same same_before same_after x.0 one a long.0 x.2 ∙ sym (end_input_long role names one other same same_before same_after y.0 other b long.1 y.2)
+  ]
+
+  by_words_of_end : SpellsEnd role names words → MayCome (Unit {0}) words (read left after after' faults now now' one other here there a b) one here a
+      → MayCome (Unit {0}) words (read' left after after' faults now now' one other here there a b) other there b → status_of a ≡ status_of b
+  by_words_of_end asked (inl p) q = absurd (no_other words (λ (r : Role) (its : EndNames). ⊥) p.none role names asked)
+  by_words_of_end asked (inr p) (inl q) = absurd (no_other words (λ (r : Role) (its : EndNames). ⊥) q.none role names asked)
+  by_words_of_end asked (inr p) (inr q) =
+      end_job (serves_end words role names asked (read left after after' faults now now' one other here there a b) one here a p.job p.spells p.does)
+      (serves_end words role names asked (read' left after after' faults now now' one other here there a b) other there b q.job q.spells q.does)
+
+pub one_status_of_ends : (words : List (List ℕ)) (left after after' : List ℕ) (faults now now' : ℕ) (one other : Served) (here there : Worlds) (a b : Verdict) → AsksEnd words → a ≢ verdicts.SourceFault
+    → a ≢ verdicts.StationFault → ((n : ℕ) → a ≢ verdicts.Full n) → b ≢ verdicts.SourceFault → b ≢ verdicts.StationFault → ((n : ℕ) → b ≢ verdicts.Full n)
+    → one.before.journal ≡ other.before.journal → one.before.heard ≡ other.before.heard → one.after.heard ≡ other.after.heard
+    → MayCome (Unit {0}) words (record { left = Some left; after = Some after; faults = faults; faults_after = now }) one here a
+    → MayCome (Unit {0}) words (record { left = Some left; after = Some after'; faults = faults; faults_after = now' }) other there b
+    → status_of a ≡ status_of b
+one_status_of_ends words left after after' faults now now' one other here there a b (role, names, asked) f f' m g g' n same same_before same_after p q =
+    by_words_of_end words role names left after after' faults now now' one other here there a b f f' m g g' n same same_before same_after asked p q

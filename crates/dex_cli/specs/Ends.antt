@@ -15,6 +15,7 @@ use Rattle.dsd_journal.specs.Devices.{Opens, since}
 use Rattle.dsd_journal.specs.JournalImage.{Holds}
 use Rattle.dsd_journal.specs.Journals.{Rests}
 use Rattle.delivery_book.specs.BookImages.{IsBookRefused}
+use Rattle.delivery_book.specs.Signing.{Legal}
 use Rattle.dex_handshake.specs.LineTable.{Ended}
 use Rattle.handheld_core.specs.Choosing.{supplier}
 use Rattle.handheld_core.specs.DraftTexts.{Says as SaysDrafts}
@@ -71,11 +72,12 @@ pub record Opening : Type 0 where
   pub attached : Told
   pub opened : Told
 
--- The journal is this end's, and it holds these entries. Before the journal was read nothing was written, heard or spoken.
+-- The journal is this end's, and it holds these entries, which its signing rules allow. Before the journal was read nothing was written, heard or spoken.
 pub record IsOpening (role : Role) (names : EndNames) (before : Told) (opening : Opening) : Type 0 where
   pub attaches : Attaches names.journal names.port (Ok tt) before opening.attached
   pub opens : Opens ⊥ opening.attached opening.opened
   pub own : opening.header.role ≡ role
+  pub legal : Legal role opening.first
   pub holds : Holds opening.header opening.first before.journal
 
 -- And from the end of the opening's sync on each stop leaves a run of these choices, over the entries that the journal held.
@@ -93,10 +95,11 @@ pub record HasRun (role : Role) (chooser : Chooser) (names : EndNames) (before a
 
 -- ---- what a session came to
 
--- It ended so by the steps over what was heard; or these lead to where so many bytes were heard that it is noise.
+-- The steps over what was heard led to this end; or to where so many bytes were heard that it was noise, while the session went on.
 abbrev pub EndsSo : Ending → Type 0 → Chooser → Standing → Standing → Told → Told → Type 0
 EndsSo (endings.Session end) tells chooser first last opened after = (last.line ≡ Ended end) × PolledAlong tells chooser first last opened after
-EndsSo endings.Noise tells chooser first last opened after = ((count : ℕ) × IsNoise last count) × PolledAlong tells chooser first (with_flags last false false) opened after
+EndsSo endings.Noise tells chooser first last opened after =
+    ((count : ℕ) × IsNoise last count) × PolledAlong tells chooser first (with_flags last false false) opened after
 
 -- This is printed of these entries and these drafts.
 pub record IsReportOf (entries : List Entry) (drafts : List BaseRecord) (refused : ℕ) (ending : Ending) (report : EndReport) : Type 0 where
@@ -109,12 +112,13 @@ abbrev pub IsToldOfEnd : List Entry → List BaseRecord → ℕ → Ending → V
 IsToldOfEnd entries drafts refused ending (verdicts.Ran report) = IsReportOf entries drafts refused ending report
 IsToldOfEnd entries drafts refused ending _ = ⊥
 
--- It came to its end, or to noise, from the first standing to the last, and this is printed of the entries of its journal then.
+-- It came to its end, or to noise, from the first standing to the last. This is printed of the entries that the last one has, which the journal holds then, and
+-- which survive each stop.
 pub record IsReported (tells : Type 0) (chooser : Chooser) (first last : Standing) (opened after : Told) (report : EndReport) : Type 0 where
   pub ends : EndsSo report.ending tells chooser first last opened after
   pub header : Header
   pub entries : List Entry
-  -- the journal holds these entries, and then they survive each stop
+  pub own : entries ≡ last.desk.entries
   pub rests : tells → Rests header entries after
   pub report_is : IsReportOf entries chooser.drafts last.desk.refused report.ending report
 

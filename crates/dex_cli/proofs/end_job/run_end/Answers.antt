@@ -35,7 +35,7 @@ returns-in-Ok-clause-told g c =
     (search rules) c.in-Ok.ensures.standing
     (λ tells. running c.args.names.now before attached
     (plugs c.args.names.now c.as_str.result.now c.as_str-2.result.now c.attach.result before attached c.as_str.ensures.value c.as_str-2.ensures.value (search rules) (c.attach.ensures.told tells))
-    c.args.role (g.D.Decider.chooser end.decider) end.core.book.header end.core.book.entries last opened after c.in-Ok.ensures.role (c.in-Ok.ensures.told tells) (c.in-Ok.ensures.rests tells).holds
+    c.args.role (g.D.Decider.chooser end.decider) end.core.book.header end.core.book.entries last opened after c.in-Ok.ensures.role c.in-Ok.ensures.legal (c.in-Ok.ensures.told tells) (c.in-Ok.ensures.rests tells).holds
     (c.run_opened.ensures.hears tells) (c.run_opened.ensures.runs tells end.core.book.entries _ (c.in-Ok.ensures.runs tells)))
     c.run_opened.ensures.told)
 
@@ -50,7 +50,7 @@ returns-in-Ok-clause-left g c = λ tells.
     let last = c.run_opened.new.end.core.standing in
     let runs = running c.args.names.now before attached
     (plugs c.args.names.now c.as_str.result.now c.as_str-2.result.now c.attach.result before attached c.as_str.ensures.value c.as_str-2.ensures.value (search rules) (c.attach.ensures.told tells))
-    c.args.role (g.D.Decider.chooser end.decider) end.core.book.header end.core.book.entries last opened after c.in-Ok.ensures.role (c.in-Ok.ensures.told tells) (c.in-Ok.ensures.rests tells).holds
+    c.args.role (g.D.Decider.chooser end.decider) end.core.book.header end.core.book.entries last opened after c.in-Ok.ensures.role c.in-Ok.ensures.legal (c.in-Ok.ensures.told tells) (c.in-Ok.ensures.rests tells).holds
     (c.run_opened.ensures.hears tells) (c.run_opened.ensures.runs tells end.core.book.entries _ (c.in-Ok.ensures.runs tells)) in
     inr (subst (λ (chooser : Chooser). HasRun c.args.role chooser c.args.names.now before after) c.in-Ok.ensures.decider (record { opening = _; standing = last; running = runs }))
 

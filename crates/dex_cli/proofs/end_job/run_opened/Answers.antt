@@ -9,14 +9,14 @@ pub returns-in-Ok-clause-told : goal.returns-in-Ok-clause-told
 returns-in-Ok-clause-told g c =
     told_so g.T.Station.tells (g.D.Decider.chooser c.args.end.now.decider) (g.D.Decider.chooser c.run.new.self.decider) c.args.end.now.core.standing c.run.new.self.core.standing
     (served_of g.T.Station.told g.T.Station.faults c.args.station.now c.run.new.station) (endings.Session c.in-Ok.ended) c.run.new.self.core.book.header c.run.new.self.core.book.known c.report.result
-    c.in-Ok.ensures.decider (c.in-Ok.ensures.ended, c.in-Ok.ensures.steps) c.in-Ok.ensures.rests c.report.ensures
+    c.in-Ok.ensures.decider (c.in-Ok.ensures.ended, c.in-Ok.ensures.steps) c.in-Ok.ensures.entries c.in-Ok.ensures.rests c.report.ensures
 
 pub returns-in-Err-Noise-clause-told : goal.returns-in-Err-Noise-clause-told
 returns-in-Err-Noise-clause-told g c =
     let clauses = rw c.in-Err-Noise.field-0-is at c.in-Err-Noise.ensures in
     told_so g.T.Station.tells (g.D.Decider.chooser c.args.end.now.decider) (g.D.Decider.chooser c.run.new.self.decider) c.args.end.now.core.standing c.run.new.self.core.standing
     (served_of g.T.Station.told g.T.Station.faults c.args.station.now c.run.new.station) endings.Noise c.run.new.self.core.book.header c.run.new.self.core.book.known c.report-in-Err-Noise.result
-    clauses.decider ((c.in-Err-Noise.field-0-0, clauses.noise), clauses.noise_steps) clauses.noisy c.report-in-Err-Noise.ensures
+    clauses.decider ((c.in-Err-Noise.field-0-0, clauses.noise), clauses.noise_steps) clauses.entries clauses.noisy c.report-in-Err-Noise.ensures
 
 pub returns-in-Err-Full-clause-told : goal.returns-in-Err-Full-clause-told
 returns-in-Err-Full-clause-told g c =
