@@ -6,14 +6,14 @@ report and its journal: a port that goes away, a journal that is full, and one t
 Its last line is 'N passed, N failed'; its status is 1 where one failed.
 """
 import os
-import pty
 import subprocess
 import sys
-import termios
-import tty
+
+sys.path.append(os.path.join(os.path.dirname(os.path.abspath(__file__)), "../examples"))
 
 import files
 from files import DELIVERY, FAULT, HEADER, JOURNAL_BYTES, PROGRAM, content, filled, remainder, taken_entry, write
+from join import port
 
 
 def frame(kind, text):
@@ -21,22 +21,12 @@ def frame(kind, text):
     return b"\x10" + bytes([kind]) + text + b"\x10\x03" + remainder(text + b"\x03").to_bytes(2, "little")
 
 
-def terminal():
-    """A pseudo-terminal: the side of the cable, and that of an end, where a read that gets no byte for a tenth of a second is a silence."""
-    cable_side, end_side = pty.openpty()
-    tty.setraw(end_side)
-    modes = termios.tcgetattr(end_side)
-    modes[6][termios.VMIN], modes[6][termios.VTIME] = 0, 1
-    termios.tcsetattr(end_side, termios.TCSANOW, modes)
-    return cable_side, end_side
-
-
 def partnered(name, role, stands, said, wanted, after):
     """One end on a journal, to which these bytes are said on its port; the port goes away once it has spoken where nothing is."""
     write("end.dex", stands)
-    cable_side, end_side = terminal()
+    cable_side, end_side, name_of_port = port(tenths=1)
     os.write(cable_side, said)
-    job = subprocess.Popen([PROGRAM, role, "end.dex", os.ttyname(end_side)], stdin=subprocess.DEVNULL, stdout=subprocess.PIPE, stderr=subprocess.PIPE)
+    job = subprocess.Popen([PROGRAM, role, "end.dex", name_of_port], stdin=subprocess.DEVNULL, stdout=subprocess.PIPE, stderr=subprocess.PIPE)
     if not said:
         os.read(cable_side, 1)
         os.close(cable_side)

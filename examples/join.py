@@ -14,12 +14,12 @@ import termios
 import tty
 
 
-def port():
-    """A pseudo-terminal: the side of the cable, the side of the end, and its name. A read of it that gets no byte for a second is a silence."""
+def port(tenths=10):
+    """A pseudo-terminal: the side of the cable, the side of the end, and its name. A read of it that gets no byte for so many tenths of a second is a silence."""
     cable_side, end_side = pty.openpty()
     tty.setraw(end_side)
     modes = termios.tcgetattr(end_side)
-    modes[6][termios.VMIN], modes[6][termios.VTIME] = 0, 10
+    modes[6][termios.VMIN], modes[6][termios.VTIME] = 0, tenths
     termios.tcsetattr(end_side, termios.TCSANOW, modes)
     return cable_side, end_side, os.ttyname(end_side)
 
