@@ -1,18 +1,23 @@
 -- A world of which the report was made is as it was played.
-use Rattle.std.proofs.Common.{◌≡◌, ℕ, List, sym, ◌∙◌, ap, subst}
+use Rattle.std.proofs.Common.{◌≡◌, ℕ, List, sym, ◌∙◌, ap, subst, None}
 use Rattle.dsd_values.specs.declared.role.Role.{Role}
 use Rattle.dsd_values.specs.declared.role.Role.TheVariants.{Receiver, Supplier}
 use Rattle.dsd_station.specs.Logged.{Log, image_by}
 use Rattle.dsd_journal.specs.JournalImage.{Holds}
+use Rattle.dsd_station.specs.Replayed.{state_of}
 use Rattle.delivery_book.specs.Books.{BookView}
+use Rattle.dsd_end.specs.Lives.{last_list}
+use Rattle.dsd_end.specs.Runs.{Run}
 use Rattle.cable_world.specs.Finishing.{Finishes, IsOver}
-use Rattle.cable_world.specs.Living.{CallSo}
+use Rattle.cable_world.specs.Diligence.{ComesBy}
+use Rattle.cable_world.specs.Leaving.{IsBegun}
+use Rattle.cable_world.specs.Living.{AreRunsOf, CallSo, HasNoHear, parts_of}
 use Rattle.cable_world.specs.Noted.{Noted, steps_of}
 use Rattle.cable_world.specs.Obeying.{Obeys, first_scene}
 use Rattle.cable_world.specs.Scenes.{side}
 use Rattle.cable_world.specs.WorldInside.{world_of}
 use Rattle.cable_world.specs.WorldReports.{IsLeftWith, IsReportOf}
-use Rattle.cable_world.specs.Worlds.{HasPlayed, IsFormatted, StandsAt, WorldView, header_of}
+use Rattle.cable_world.specs.Worlds.{HasPlayed, IsFormatted, IsLifeIn, IsTold, StandsAt, WorldView, chooser_of, header_of, refused_by}
 use Rattle.cable_world.specs.declared.cable.Cable.{Cable}
 use Rattle.cable_world.specs.declared.events.Events.{Events}
 use Rattle.cable_world.specs.declared.script.Script.{Script}
@@ -24,9 +29,27 @@ use Rattle.cable_world.specs.declared.world_report.WorldReport.{WorldReport}
 pub played_at : (stage : Stage) (world : WorldView) → stage ≡ stages.Played → StandsAt stage world → HasPlayed world
 played_at stage world is stands = subst (λ (s : Stage). StandsAt s world) is stands
 
+-- what the steps tell of an end, where script, steps and its refused sets stay
+told_left : (world left : WorldView) (role : Role) (first : Log) → left.script ≡ world.script → left.noted ≡ world.noted → refused_by left role ≡ refused_by world role → IsTold world role first → IsTold left role first
+told_left world left role first script noted refused t = record {
+  begun = subst (λ (s : Script). IsBegun role (header_of s role) first (steps_of left.noted)) (sym script) (subst (λ (n : List Noted). IsBegun role (header_of world.script role) first (steps_of n)) (sym noted) t.begun);
+  last = t.last;
+  diligent = subst (λ (s : Script). ComesBy role (chooser_of s role) (header_of s role) (state_of first.calls) None left.noted t.last) (sym script)
+      (subst (λ (n : List Noted). ComesBy role (chooser_of world.script role) (header_of world.script role) (state_of first.calls) None n t.last) (sym noted) t.diligent);
+  refused = t.refused ∙ sym refused;
+}
+
+life_left : (world left : WorldView) (role : Role) (runs : List Run) → left.script ≡ world.script → left.noted ≡ world.noted → image_by (side left.scene role).log ≡ image_by (side world.scene role).log → IsLifeIn world role runs → IsLifeIn left role runs
+life_left world left role runs script noted image l = record {
+  are = subst (λ (n : List Noted). AreRunsOf (parts_of role (steps_of n)).runs runs) (sym noted) l.are;
+  life = l.life;
+  holds = subst (λ (s : Script). Holds (header_of s role) (last_list runs) (image_by (side left.scene role).log)) (sym script) (subst (λ (b : List ℕ). Holds (header_of world.script role) (last_list runs) b) (sym image) l.holds);
+}
+
 -- it is told by the script, the steps, how many sets were refused, and the images
-played_left : (world left : WorldView) → left.script ≡ world.script → left.noted ≡ world.noted → image_by left.scene.supplier.log ≡ image_by world.scene.supplier.log → image_by left.scene.receiver.log ≡ image_by world.scene.receiver.log → HasPlayed world → HasPlayed left
-played_left world left script noted its those p = record {
+played_left : (world left : WorldView) → left.script ≡ world.script → left.noted ≡ world.noted → image_by left.scene.supplier.log ≡ image_by world.scene.supplier.log → image_by left.scene.receiver.log ≡ image_by world.scene.receiver.log
+    → left.handheld_refused ≡ world.handheld_refused → left.receiver_refused ≡ world.receiver_refused → HasPlayed world → HasPlayed left
+played_left world left script noted its those handheld_refused receiver_refused p = record {
   handheld = p.handheld;
   receiver = p.receiver;
   handheld_is = subst (λ (s : Script). IsFormatted (header_of s Supplier) p.handheld) (sym script) p.handheld_is;
@@ -35,6 +58,16 @@ played_left world left script noted its those p = record {
   obeys = subst (λ (s : Script). Obeys s.events (first_scene p.handheld p.receiver) (steps_of left.noted) p.last) (sym script)
       (subst (λ (n : List Noted). Obeys world.script.events (first_scene p.handheld p.receiver) (steps_of n) p.last) (sym noted) p.obeys);
   calls = subst (λ (n : List Noted). CallSo (steps_of n)) (sym noted) p.calls;
+  handheld_told = told_left world left Supplier p.handheld script noted handheld_refused p.handheld_told;
+  receiver_told = told_left world left Receiver p.receiver script noted receiver_refused p.receiver_told;
+  lives = record {
+    handheld = p.lives.handheld;
+    receiver = p.lives.receiver;
+    handheld_is = life_left world left Supplier p.lives.handheld script noted its p.lives.handheld_is;
+    receiver_is = life_left world left Receiver p.lives.receiver script noted those p.lives.receiver_is;
+    honest = λ free. p.lives.honest (subst (λ (s : Script). HasNoHear s.events) script free);
+    agree = p.lives.agree;
+  };
   handheld_image = its ∙ p.handheld_image;
   receiver_image = those ∙ p.receiver_image;
 }
@@ -47,7 +80,8 @@ script_stays old new events stage later setting = ap (λ (s : Setting). record {
 
 pub played_stays : (report : WorldReport) (old new : Cable) (events : Events) (stage later : Stage) → Finishes report old new → HasPlayed (world_at old events stage) → HasPlayed (world_at new events later)
 played_stays report old new events stage later f played =
-    played_left (world_at old events stage) (world_at new events later) (script_stays old new events stage later f.setting) f.noted f.handheld_image f.receiver_image played
+    played_left (world_at old events stage) (world_at new events later) (script_stays old new events stage later f.setting) f.noted f.handheld_image f.receiver_image
+    f.handheld_refused f.receiver_refused played
 
 left_with : (world : WorldView) (role : Role) (book : BookView) (image : List ℕ) → image ≡ image_by (side world.scene role).log → IsOver role image book → IsLeftWith world role book.known
 left_with world role book image same over = record {

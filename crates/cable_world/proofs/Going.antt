@@ -1,9 +1,11 @@
 -- Courses of a cable one behind the other.
 use Rattle.std.proofs.Common.{◌≡◌, List, [], ◌∷◌, ◌++◌, Result, Ok, Err, OnOk, map, refl, sym, ◌∙◌, ap, subst, append-nil, append_assoc}
 use Rattle.std.proofs.lemmas.List.{map-append}
+use Rattle.dsd_values.specs.declared.role.Role.{Role}
+use Rattle.dsd_values.specs.declared.role.Role.TheVariants.{Receiver, Supplier}
 use Rattle.dsd_station.specs.declared.call.Call.{Call}
 use Rattle.cable_world.specs.CableSteps.{Goes, IsOpen}
-use Rattle.cable_world.specs.Cables.{AreStepsIn, cable_of, noted_in, scene_of}
+use Rattle.cable_world.specs.Cables.{AreStepsIn, cable_of, noted_in, scene_of, seat}
 use Rattle.cable_world.specs.Changing.{Changes, KeepsEnd, KeepsEnds}
 use Rattle.cable_world.specs.Living.{CallSo}
 use Rattle.cable_world.specs.Noted.{Noted, step_of, steps_of}
@@ -11,9 +13,12 @@ use Rattle.cable_world.specs.Obeying.{Course, Nothing, Then}
 use Rattle.cable_world.specs.Scenes.{Scene}
 use Rattle.cable_world.specs.SeatSteps.{IsReady, IsPollable}
 use Rattle.cable_world.specs.Seats.{SeatView}
+use Rattle.cable_world.specs.Settings.{chooser_at}
 use Rattle.cable_world.specs.Steps.{WorldStep}
 use Rattle.cable_world.specs.declared.cable.Cable.{Cable}
 use Rattle.cable_world.specs.StepsKept.{StepView}
+use Rattle.cable_world.specs.declared.setting.Setting.{Setting}
+use Rattle.cable_world.proofs.ComesAlong.{on_kept, on_then}
 
 pub on_ok_so : {T E P Q : Type 0} (r : Result T E) → OnOk r P → (P → Q) → OnOk r Q
 on_ok_so (Ok x) p f = f p
@@ -23,8 +28,11 @@ calls_both : (a b : List Noted) → CallSo (steps_of a) → CallSo (steps_of b) 
 calls_both [] b none those = those
 calls_both (one ∷ a) b these those = (these.0, calls_both a b these.1 those)
 
+pub same_end : (seat : SeatView) → KeepsEnd seat seat
+same_end seat = record { calls = refl; starved = refl; player = refl; spoken = refl; refused = refl }
+
 pub goes_nothing : (cable : Cable) → IsOpen cable → Goes Nothing cable cable
-goes_nothing cable ready = record { made = []; noted = sym (append-nil (cable_of cable).noted); goes = (refl, refl); calls = tt; setting = refl; ready = ready }
+goes_nothing cable ready = record { made = []; noted = sym (append-nil (cable_of cable).noted); goes = (refl, refl); calls = tt; setting = refl; ready = ready; comes = λ one_list its is. on_kept its (seat (cable_of cable) its.role) (seat (cable_of cable) its.role) (same_end (seat (cable_of cable) its.role)) }
 
 pub goes_then : (one two : Course) (old mid new : Cable) → Goes one old mid → Goes two mid new → Goes (Then one two) old new
 goes_then one two old mid new a b = record {
@@ -34,13 +42,15 @@ goes_then one two old mid new a b = record {
   calls = calls_both a.made b.made a.calls b.calls;
   setting = b.setting ∙ a.setting;
   ready = b.ready;
+  comes = λ one_list its is. on_then its a.made b.made (seat (cable_of old) its.role) (seat (cable_of mid) its.role) (seat (cable_of new) its.role) (a.comes one_list its is)
+      (b.comes one_list its (record { role = is.role; chooser = is.chooser ∙ ap (λ (s : Setting). chooser_at s its.role) (sym a.setting) }));
 }
 
 -- a course that is so from where the cable stands
 pub goes_as : (one two : Course) (old new : Cable)
     → ((made : List WorldStep) (next : Scene) → one (scene_of (cable_of old)) made next → two (scene_of (cable_of old)) made next) → Goes one old new → Goes two old new
 goes_as one two old new so a =
-    record { made = a.made; noted = a.noted; goes = so (steps_of a.made) (scene_of (cable_of new)) a.goes; calls = a.calls; setting = a.setting; ready = a.ready }
+    record { made = a.made; noted = a.noted; goes = so (steps_of a.made) (scene_of (cable_of new)) a.goes; calls = a.calls; setting = a.setting; ready = a.ready; comes = a.comes }
 
 -- ---- a change that no end makes
 
@@ -49,9 +59,6 @@ pub after_change : (after : Scene → Scene) (two : Course) (scene : Scene) (mad
 after_change after two scene made next then =
     let (none, same) = then.before in
     subst (λ (l : List WorldStep). two (after scene) l next) (sym (then.joined ∙ ap (λ (l : List WorldStep). l ++ then.rest) none)) (subst (λ (s : Scene). two s then.rest next) same then.behind)
-
-pub same_end : (seat : SeatView) → KeepsEnd seat seat
-same_end seat = record { calls = refl; starved = refl; player = refl; spoken = refl; refused = refl }
 
 ready_still : (old new : SeatView) → KeepsEnd old new → IsReady old → IsReady new
 ready_still old new keeps ready = record {
@@ -75,4 +82,16 @@ noted_still old new keeps =
 
 pub goes_becomes : (old new : Cable) (after : Scene → Scene) → IsOpen old → KeepsEnds old new → scene_of (cable_of new) ≡ after (scene_of (cable_of old)) → Goes (Changes after) old new
 goes_becomes old new after ready keeps is =
-    record { made = []; noted = noted_still old new keeps ∙ sym (append-nil (cable_of old).noted); goes = (refl, is); calls = tt; setting = keeps.setting; ready = open_still old new keeps ready }
+    record {
+      made = [];
+      noted = noted_still old new keeps ∙ sym (append-nil (cable_of old).noted);
+      goes = (refl, is);
+      calls = tt;
+      setting = keeps.setting;
+      ready = open_still old new keeps ready;
+      comes = λ one_list its ends. on_kept its (seat (cable_of old) its.role) (seat (cable_of new) its.role) (kept its.role);
+    }
+  where
+    kept : (role : Role) → KeepsEnd (seat (cable_of old) role) (seat (cable_of new) role)
+    kept Supplier = keeps.handheld
+    kept Receiver = keeps.receiver

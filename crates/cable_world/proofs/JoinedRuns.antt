@@ -18,6 +18,7 @@ use Rattle.dsd_end.specs.Runs.{Run, bytes_heard}
 use Rattle.dsd_end.proofs.Onward.{carried_more}
 use Rattle.cable_world.specs.Leaving.{AreUnwriting, Begins, BeginsRun, GoesOn, LeavesNothing, LeavesRuns, WritesNot, recorded, run_to, state_behind, behind_if, image_left, state_after, IsLifeOf}
 use Rattle.cable_world.specs.Living.{AreRunsOf, Parts, begins_run, is_opening, parts_of, with_part}
+use Rattle.cable_world.specs.Progressing.{OneList}
 use Rattle.cable_world.specs.Steps.{WorldStep, same_role}
 use Rattle.cable_world.proofs.Taking.{answers_more, bytes_more}
 
@@ -25,9 +26,13 @@ pub said_more : (a b : List Call) → said_in (a ++ b) ≡ said_in a ++ said_in 
 said_more [] b = refl
 said_more (call ∷ a) b = ap (λ (l : List ℕ). said_by call ++ l) (said_more a b) ∙ sym (append_assoc (said_by call) (said_in a) (said_in b))
 
+pub replay_more : (state : State) (a b : List Call) → replay state (a ++ b) ≡ replay (replay state a) b
+replay_more state [] b = refl
+replay_more state (call ∷ a) b = replay_more (step state call) a b
+
 -- ---- what may be left behind calls that write nothing might have been left before them
 
-abbrev MayLeaveAt : State → List ℕ → Type 0
+abbrev pub MayLeaveAt : State → List ℕ → Type 0
 MayLeaveAt state image = MayLeave state.now.sure state.now.writes image
 
 still_one : (s : State) (call : Call) (image : List ℕ) → IsFine s → WritesNot call → MayLeaveAt (step s call) image → MayLeaveAt s image
@@ -58,6 +63,10 @@ pub still_fine : (s : State) (calls : List Call) → IsFine s → AreUnwriting s
 still_fine s [] fine are = fine
 still_fine s (call ∷ calls) fine are = still_fine (step s call) calls (fine_step s call fine are.0) are.2
 
+-- the journal as it is read behind calls that write nothing might have been left before them
+pub read_before : (s : State) (calls : List Call) → IsFine s → AreUnwriting s calls → MayLeaveAt s (replay s calls).journal
+read_before s calls fine are = still s calls (replay s calls).journal fine are (read_stays (replay s calls) (still_fine s calls fine are))
+
 -- the image that is left when all is over
 pub left_may : (s : State) → IsFine s → MayLeaveAt s (image_or s.left s.journal)
 left_may s fine = go s.left refl
@@ -78,10 +87,6 @@ run_hears role run more r = record {
       subst (λ (bytes : List ℕ). Carried bytes text) (sym (bytes_more run.heard more)) (carried_more (bytes_heard run.heard) (bytes_heard more) text (r.taken text inside));
   speaks = r.speaks;
 }
-
--- an image holds at most one list
-abbrev pub OneList : Type 0
-OneList = (image : List ℕ) (one other : Header) (entries others : List Entry) → Holds one entries image → Holds other others image → (one ≡ other) × (entries ≡ others)
 
 module _ (one_list : OneList) (role : Role) (header : Header) where
   -- how a run that goes on ends, and the runs behind it
@@ -131,12 +136,11 @@ module _ (one_list : OneList) (role : Role) (header : Header) where
       → BeginsRun role header state one next → IsRun role (run_to first heard gone next)
   ended_so first heard gone state one next fine leaves (unwriting, holds, more) =
       let behind : State = state_behind state one in
-      let there : MayLeaveAt state behind.journal = still state (recorded one) behind.journal fine unwriting (read_stays behind (still_fine state (recorded one) fine unwriting)) in
-      let (after, held, is) = leaves behind.journal there in
+      let (after, held, is) = leaves behind.journal (read_before state (recorded one) fine unwriting) in
       subst (λ (l : List Entry). IsRun role (run_to first heard gone l)) (one_list behind.journal header header after next held holds).1 is
 
   -- a failed opening leaves the run as it was
-  failed_so : (first : List Entry) (heard : List Reception) (gone : List ℕ) (state : State) (one : WorldStep) → IsFine state → LeavesRuns role header first heard gone state
+  pub failed_so : (first : List Entry) (heard : List Reception) (gone : List ℕ) (state : State) (one : WorldStep) → IsFine state → LeavesRuns role header first heard gone state
       → AreUnwriting state (recorded one) → said_in one.part ≡ [] → LeavesRuns role header first (heard ++ answers_in one.part) (gone ++ said_in one.part) (state_behind state one)
   failed_so first heard gone state one fine leaves unwriting none image may =
       let (after, held, is) = leaves image (still state (recorded one) image fine unwriting may) in
@@ -186,7 +190,7 @@ module _ (one_list : OneList) (role : Role) (header : Header) where
           let (next, begun, goes) = begins.2 o b in
           let behind : State = state_behind state one in
           let fine_then : IsFine behind = still_fine state (recorded one) fine begun.0 in
-          let none : Holds header [] behind.journal = leaves behind.journal (still state (recorded one) behind.journal fine begun.0 (read_stays behind fine_then)) in
+          let none : Holds header [] behind.journal = leaves behind.journal (read_before state (recorded one) fine begun.0) in
           let first : next ≡ [] = (one_list behind.journal header header next [] begun.1 none).1 in
           let j : Joined next (answers_in one.part) (said_in one.part) (parts_of role steps) (image_left (state_after role behind steps)) = going steps behind next (answers_in one.part) (said_in one.part) fine_then begun.2 goes in
           let parts : Parts = parts_of role steps in

@@ -1,5 +1,5 @@
 -- How the last run came out by an end's own record, and by the steps as they are noted.
-use Rattle.std.proofs.Common.{◌≡◌, Bool, true, false, List, [], ◌∷◌, map, refl, sym, ◌∙◌, ap, subst, if◌then◌else◌}
+use Rattle.std.proofs.Common.{◌≡◌, true, List, [], ◌∷◌, map, refl, ◌∙◌, ap, if◌then◌else◌}
 use Rattle.dsd_values.specs.declared.role.Role.{Role}
 use Rattle.dsd_values.specs.declared.role.Role.TheVariants.{Receiver, Supplier}
 use Rattle.dsd_station.specs.declared.call.Call.{Call}

@@ -21,6 +21,8 @@ mod PlayerOpened
 mod Places
 mod Seated
 mod SeatStep
+mod ComesAlong
+mod Progressed
 mod HandheldStepped
 mod ReceiverStepped
 mod Stepped

@@ -1,5 +1,5 @@
 -- An opening of an end, by what its calls tell.
-use Rattle.std.proofs.Common.{◌≡◌, ◌⊎◌, inl, inr, ℕ, Bool, true, false, List, [], ◌∷◌, ◌++◌, refl, sym, ◌∙◌, ap, subst, append_assoc, Option, Some, None, Result, Ok, Err}
+use Rattle.std.proofs.Common.{◌≡◌, ◌⊎◌, inl, inr, ℕ, Bool, false, List, [], ◌∷◌, ◌++◌, refl, sym, ◌∙◌, ap, subst, append_assoc, Option, Some, None, Result, Ok}
 use Rattle.std.specs.Prelude.{IfOk}
 use Rattle.dsd_values.specs.declared.role.Role.{Role}
 use Rattle.dsd_record.specs.Choices.{Chooser}
@@ -22,7 +22,7 @@ use Rattle.cable_world.specs.Living.{AreCallsOf}
 use Rattle.cable_world.specs.Players.{HasOpened, IsOpenedBy, PlayerView}
 use Rattle.cable_world.specs.Scenes.{all_played}
 use Rattle.cable_world.specs.SeatOpens.{IsFirst, PlayerOpens}
-use Rattle.cable_world.specs.SeatSteps.{Grows, IsPollable}
+use Rattle.cable_world.specs.SeatSteps.{Grows}
 use Rattle.cable_world.specs.Steps.{Opening}
 use Rattle.cable_world.proofs.ByStation.{part_answered}
 use Rattle.cable_world.proofs.Partly.{log_grown, rests_bare, runs_bare}

@@ -122,6 +122,7 @@ player_polled result old new before after c able was now not none answer is =
       chooser = c.chooser;
       titled = c.titled ∙ c.header ∙ sym able.titled;
       runs = λ first beginning runs. runs_bare (chooser_by old.choices) first beginning new.standing after (c.runs first beginning (runs_told (chooser_by old.choices) first beginning old.standing before runs));
+      fine = now.fine;
       pollable = so.pollable;
       patience = so.patience;
     }

@@ -1,31 +1,31 @@
 -- Steps of the receiver, noted.
-use Rattle.std.proofs.Common.{◌≡◌, ◌≤◌, ℕ, Bool, true, false, List, [], ◌∷◌, ◌++◌, length, map, drop, is_some, refl, sym, ◌∙◌, ap, subst, arith, append_assoc, append-nil, length-append}
+use Rattle.std.proofs.Common.{◌≡◌, ℕ, Bool, List, [], ◌∷◌, ◌++◌, length, map, drop, is_some, refl, sym, ◌∙◌, ap, subst, arith, append_assoc, length-append}
 use Rattle.std.proofs.lemmas.List.{drop_at, map-append}
 use Rattle.dsd_values.specs.declared.role.Role.TheVariants.{Receiver, Supplier}
 use Rattle.dsd_values.specs.declared.role.Role.{Role}
 use Rattle.dsd_station.specs.declared.call.Call.{Call}
 use Rattle.dsd_station.specs.Logged.{Log}
-use Rattle.cable_world.specs.Cables.{AreStepsIn, cable_of, noted_in, part_in, scene_of, waiting_as}
-use Rattle.cable_world.specs.CableSteps.{Goes, IsOpen}
-use Rattle.cable_world.specs.Living.{AreCallsOf, CallSo}
-use Rattle.cable_world.specs.Noted.{Noted, kind_of, runs_by, step_of}
-use Rattle.cable_world.specs.Noting.{Notes, NotesReceiver}
-use Rattle.cable_world.specs.Obeying.{Course, Makes}
-use Rattle.cable_world.specs.Scenes.{Scene, Side, all_played, sent_to, stepped, with_log}
-use Rattle.cable_world.specs.SeatSteps.{IsPollable, IsReady}
-use Rattle.cable_world.specs.Seats.{SeatView, side_of, with_spoken}
-use Rattle.cable_world.specs.Players.{PlayerView}
-use Rattle.cable_world.specs.Steps.{StepKind, WorldStep, frames_in}
+use Rattle.cable_world.specs.Cables.{AreStepsIn, cable_of, noted_in, part_in, scene_of, seat as seat_at, waiting_as}
+use Rattle.cable_world.specs.CableSteps.{Goes, IsEndOf, IsOpen}
+use Rattle.cable_world.specs.Progressing.{ComesOn, OneEnd, OneList}
+use Rattle.cable_world.specs.Living.{AreCallsOf}
+use Rattle.cable_world.specs.Noted.{Noted, runs_by, step_of}
+use Rattle.cable_world.specs.Noting.{NotesReceiver}
+use Rattle.cable_world.specs.Scenes.{Side, all_played, sent_to, stepped, with_log}
+use Rattle.cable_world.specs.SeatSteps.{IsReady}
+use Rattle.cable_world.specs.Seats.{SeatView, side_of}
+use Rattle.cable_world.specs.Steps.{StepKind, frames_in}
 use Rattle.cable_world.specs.declared.answer.Answer.{Answer}
 use Rattle.cable_world.specs.declared.cable.Cable.{Cable}
 use Rattle.cable_world.specs.StepsKept.{StepView}
-use Rattle.cable_world.specs.declared.setting.Setting.{Setting}
+use Rattle.cable_world.proofs.ComesAlong.{on_noted}
 use Rattle.cable_world.proofs.Places.{receiver_grows, in_grown_receiver, last_part, steps_in_more}
 use Rattle.cable_world.proofs.SeatStep.{IsSeatStep, StepFrom, ready_with}
 use Rattle.cable_world.proofs.Taking.{all_played_calls}
 
 module _ (kind : StepKind) (answer : Answer) (mid : Log) (extra part : List Call) (old new : Cable) (seat : SeatView) (from_mid : mid.calls ≡ old.receiver.log.calls ++ extra)
-    (s : IsSeatStep kind answer mid part old.receiver seat) (n : NotesReceiver (length mid.calls) answer (record old { receiver = seat }) new) (open_now : IsOpen old) where
+    (s : IsSeatStep kind answer mid part old.receiver seat) (n : NotesReceiver (length mid.calls) answer (record old { receiver = seat }) new) (open_now : IsOpen old)
+    (comes_seat : OneList → (its : OneEnd) → IsEndOf old its → its.role ≡ Receiver → ComesOn its old.receiver (record { role = its.role; answer = answer; part = part } ∷ []) seat) where
   grown : seat.log.calls ≡ mid.calls ++ part
   grown = ap (λ (l : Log). l.calls) s.log ∙ all_played_calls mid part
 
@@ -94,4 +94,15 @@ module _ (kind : StepKind) (answer : Answer) (mid : Log) (extra part : List Call
       receiver = ready_with seat new.receiver (frames_in (drop (length mid.calls) seat.log.calls)) n.notes.seat s.ready;
       handheld = subst IsReady (sym n.handheld) open_now.handheld;
     };
+    comes = λ one_list its is. go one_list its is its.role refl;
   }
+    where
+      go : OneList → (its : OneEnd) → IsEndOf old its → (role : Role) → its.role ≡ role → ComesOn its (seat_at (cable_of old) role) (record { role = Receiver; answer = answer; part = part } ∷ []) (seat_at (cable_of new) role)
+      go one_list its is role r = by role r
+        where
+          both : (its.role ≡ Receiver → ComesOn its old.receiver (record { role = Receiver; answer = answer; part = part } ∷ []) new.receiver) × (its.role ≡ Supplier → ComesOn its old.handheld (record { role = Receiver; answer = answer; part = part } ∷ []) new.handheld)
+          both = on_noted its Receiver Supplier answer part old.receiver seat new.receiver old.handheld new.handheld (frames_in (drop (length mid.calls) seat.log.calls)) refl n.notes.seat n.handheld (comes_seat one_list its is)
+
+          by : (role : Role) → its.role ≡ role → ComesOn its (seat_at (cable_of old) role) (record { role = Receiver; answer = answer; part = part } ∷ []) (seat_at (cable_of new) role)
+          by Receiver r = both.0 r
+          by Supplier r = both.1 r

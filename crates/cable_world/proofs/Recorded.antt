@@ -17,6 +17,7 @@ use Rattle.cable_world.specs.Scenes.{Scene, fed, restarted, side, stepped, with_
 use Rattle.cable_world.specs.declared.event.Event.{Event}
 use Rattle.cable_world.specs.declared.event.Event.TheVariants.{Start, Pass, Lose, Break, Again, Quiet, Unplug, Hear, Stop, Fail, Clean}
 use Rattle.cable_world.specs.Steps.{Opening, Poll, StepKind, WorldStep, other, same_role}
+use Rattle.cable_world.proofs.JoinedRuns.{replay_more}
 use Rattle.cable_world.proofs.Taking.{all_played_calls}
 
 abbrev calls_of : Role → Scene → List Call
@@ -196,10 +197,6 @@ module _ (role : Role) where
   obeys_adds (event ∷ events) scene made next c = then_on (Plays event) (Obeys events) (plays_on event) (obeys_adds events) scene made next c
 
   -- and what a record comes to is what the steps come to
-  replay_more : (state : State) (a b : List Call) → replay state (a ++ b) ≡ replay (replay state a) b
-  replay_more state [] b = refl
-  replay_more state (call ∷ a) b = replay_more (step state call) a b
-
   pub replay_record : (state : State) (steps : List WorldStep) → replay state (record_of role steps) ≡ state_after role state steps
   replay_record state [] = refl
   replay_record state (one ∷ steps) = by (same_role role one.role) refl (replay_record (state_behind state one) steps) (replay_record state steps)

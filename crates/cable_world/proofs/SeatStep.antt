@@ -11,9 +11,9 @@ use Rattle.cable_world.specs.Living.{AreCallsOf}
 use Rattle.cable_world.specs.Noted.{kind_of, runs_by}
 use Rattle.cable_world.specs.Obeying.{Course, Makes}
 use Rattle.cable_world.specs.Players.{PlayerView}
-use Rattle.cable_world.specs.Scenes.{Scene, all_played, stepped, with_log}
+use Rattle.cable_world.specs.Scenes.{all_played, stepped, with_log}
 use Rattle.cable_world.specs.SeatOpens.{SeatStarts, opening_answer, player_in}
-use Rattle.cable_world.specs.SeatSteps.{IsPollable, IsReady, SeatPolls}
+use Rattle.cable_world.specs.SeatSteps.{IsReady, SeatPolls}
 use Rattle.cable_world.specs.Seats.{SeatView, with_spoken}
 use Rattle.cable_world.specs.Steps.{Opening, Poll, StepKind, WorldStep}
 use Rattle.cable_world.specs.declared.answer.Answer.{Answer}

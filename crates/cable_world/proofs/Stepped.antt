@@ -16,13 +16,14 @@ use Rattle.cable_world.specs.Noting.{NotesHandheld, NotesReceiver}
 use Rattle.cable_world.specs.SeatOpens.{SeatStarts}
 use Rattle.cable_world.specs.SeatSteps.{IsReady, SeatPolls}
 use Rattle.cable_world.specs.Seats.{SeatView}
-use Rattle.cable_world.specs.Scenes.{all_played}
+use Rattle.cable_world.specs.Settings.{chooser_at}
 use Rattle.cable_world.specs.Steps.{Opening, Poll}
 use Rattle.cable_world.specs.declared.answer.Answer.{Answer}
 use Rattle.cable_world.specs.declared.cable.Cable.{Cable}
 use Rattle.cable_world.proofs.HandheldStepped.{handheld_stepped}
 use Rattle.cable_world.proofs.ReceiverStepped.{receiver_stepped}
 use Rattle.cable_world.proofs.Taking.{all_played_calls}
+use Rattle.cable_world.proofs.Progressed.{on_opening, on_poll}
 use Rattle.cable_world.proofs.SeatStep.{StepFrom, open_step, poll_step}
 
 pub on_ok_so : {T E : Type 0} (r : Result T E) (P Q : Type 0) → OnOk r P → (P → Q) → OnOk r Q
@@ -34,34 +35,38 @@ pub poll_handheld : (old new : Cable) (seat : SeatView) (answer : Answer) (from 
 poll_handheld old new seat answer from polls ready is n open_now =
     let g : Goes (StepFrom Supplier Poll old.handheld.log) old new =
     handheld_stepped Poll answer old.handheld.log [] polls.polls.part old new seat (sym (append-nil old.handheld.log.calls)) (poll_step answer old.handheld seat polls ready)
-    (subst (λ (k : ℕ). NotesHandheld k answer (record old { handheld = seat }) new) is n) open_now in
-    record { made = g.made; noted = g.noted; goes = g.goes; calls = g.calls; setting = g.setting; ready = g.ready }
+    (subst (λ (k : ℕ). NotesHandheld k answer (record old { handheld = seat }) new) is n) open_now
+    (λ one_list its ends r. on_poll its ends.role answer old.handheld seat polls) in
+    record { made = g.made; noted = g.noted; goes = g.goes; calls = g.calls; setting = g.setting; ready = g.ready; comes = g.comes }
 
-pub open_handheld : (chooser : Chooser) (old new : Cable) (seat : SeatView) (answer : Answer) (from : ℕ) → SeatStarts Supplier chooser answer old.handheld seat → IsReady seat → from ≡ length old.handheld.log.calls + 1
+pub open_handheld : (old new : Cable) (seat : SeatView) (answer : Answer) (from : ℕ) → SeatStarts Supplier (chooser_at old.setting Supplier) answer old.handheld seat → IsReady seat → from ≡ length old.handheld.log.calls + 1
     → NotesHandheld from answer (record old { handheld = seat }) new → IsOpen old → Goes (IsOpened Supplier) old new
-open_handheld chooser old new seat answer from starts ready is n open_now =
+open_handheld old new seat answer from starts ready is n open_now =
     let mid : Log = after_restart old.handheld.log in
     let g : Goes (StepFrom Supplier Opening mid) old new =
-    handheld_stepped Opening answer mid (Restart ∷ []) starts.opens.part old new seat refl (open_step Supplier chooser answer old.handheld seat starts ready)
-    (subst (λ (k : ℕ). NotesHandheld k answer (record old { handheld = seat }) new) (is ∙ sym (length-append old.handheld.log.calls (Restart ∷ []))) n) open_now in
-    record { made = g.made; noted = g.noted; goes = g.goes; calls = g.calls; setting = g.setting; ready = g.ready }
+    handheld_stepped Opening answer mid (Restart ∷ []) starts.opens.part old new seat refl (open_step Supplier (chooser_at old.setting Supplier) answer old.handheld seat starts ready)
+    (subst (λ (k : ℕ). NotesHandheld k answer (record old { handheld = seat }) new) (is ∙ sym (length-append old.handheld.log.calls (Restart ∷ []))) n) open_now
+    (λ one_list its ends r. on_opening one_list its Supplier (chooser_at old.setting Supplier) ends.role r (ends.chooser ∙ ap (chooser_at old.setting) r) answer old.handheld seat starts) in
+    record { made = g.made; noted = g.noted; goes = g.goes; calls = g.calls; setting = g.setting; ready = g.ready; comes = g.comes }
 
 pub poll_receiver : (old new : Cable) (seat : SeatView) (answer : Answer) (from : ℕ) → SeatPolls answer old.receiver seat → IsReady seat → from ≡ length old.receiver.log.calls
     → NotesReceiver from answer (record old { receiver = seat }) new → IsOpen old → Goes (IsPolled Receiver) old new
 poll_receiver old new seat answer from polls ready is n open_now =
     let g : Goes (StepFrom Receiver Poll old.receiver.log) old new =
     receiver_stepped Poll answer old.receiver.log [] polls.polls.part old new seat (sym (append-nil old.receiver.log.calls)) (poll_step answer old.receiver seat polls ready)
-    (subst (λ (k : ℕ). NotesReceiver k answer (record old { receiver = seat }) new) is n) open_now in
-    record { made = g.made; noted = g.noted; goes = g.goes; calls = g.calls; setting = g.setting; ready = g.ready }
+    (subst (λ (k : ℕ). NotesReceiver k answer (record old { receiver = seat }) new) is n) open_now
+    (λ one_list its ends r. on_poll its ends.role answer old.receiver seat polls) in
+    record { made = g.made; noted = g.noted; goes = g.goes; calls = g.calls; setting = g.setting; ready = g.ready; comes = g.comes }
 
-pub open_receiver : (chooser : Chooser) (old new : Cable) (seat : SeatView) (answer : Answer) (from : ℕ) → SeatStarts Receiver chooser answer old.receiver seat → IsReady seat → from ≡ length old.receiver.log.calls + 1
+pub open_receiver : (old new : Cable) (seat : SeatView) (answer : Answer) (from : ℕ) → SeatStarts Receiver (chooser_at old.setting Receiver) answer old.receiver seat → IsReady seat → from ≡ length old.receiver.log.calls + 1
     → NotesReceiver from answer (record old { receiver = seat }) new → IsOpen old → Goes (IsOpened Receiver) old new
-open_receiver chooser old new seat answer from starts ready is n open_now =
+open_receiver old new seat answer from starts ready is n open_now =
     let mid : Log = after_restart old.receiver.log in
     let g : Goes (StepFrom Receiver Opening mid) old new =
-    receiver_stepped Opening answer mid (Restart ∷ []) starts.opens.part old new seat refl (open_step Receiver chooser answer old.receiver seat starts ready)
-    (subst (λ (k : ℕ). NotesReceiver k answer (record old { receiver = seat }) new) (is ∙ sym (length-append old.receiver.log.calls (Restart ∷ []))) n) open_now in
-    record { made = g.made; noted = g.noted; goes = g.goes; calls = g.calls; setting = g.setting; ready = g.ready }
+    receiver_stepped Opening answer mid (Restart ∷ []) starts.opens.part old new seat refl (open_step Receiver (chooser_at old.setting Receiver) answer old.receiver seat starts ready)
+    (subst (λ (k : ℕ). NotesReceiver k answer (record old { receiver = seat }) new) (is ∙ sym (length-append old.receiver.log.calls (Restart ∷ []))) n) open_now
+    (λ one_list its ends r. on_opening one_list its Receiver (chooser_at old.setting Receiver) ends.role r (ends.chooser ∙ ap (chooser_at old.setting) r) answer old.receiver seat starts) in
+    record { made = g.made; noted = g.noted; goes = g.goes; calls = g.calls; setting = g.setting; ready = g.ready; comes = g.comes }
 
 pub started_longer : (role : Role) (chooser : Chooser) (answer : Answer) (old new : SeatView) (n : ℕ) → SeatStarts role chooser answer old new → n ≡ length old.log.calls + 1 → n ≤ length new.log.calls
 started_longer role chooser answer old new n s is =

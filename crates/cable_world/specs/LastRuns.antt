@@ -1,5 +1,5 @@
 -- How the last run of an end came out, as the steps show it.
-use Rattle.std.specs.Prelude.{ℕ, Bool, true, false, if◌then◌else◌, List, [], ◌∷◌}
+use Rattle.std.specs.Prelude.{Bool, true, false, if◌then◌else◌, List, [], ◌∷◌}
 use Rattle.std.specs.List.{list_any}
 use Rattle.dsd_values.specs.declared.role.Role.{Role}
 use Rattle.dsd_station.specs.declared.call.Call.{Call}

@@ -11,6 +11,7 @@ pub mod Leaving
 pub mod Delivering
 pub mod Noted
 pub mod Diligence
+pub mod Progressing
 pub mod Worlds
 pub mod WorldReports
 pub mod Players

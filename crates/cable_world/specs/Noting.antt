@@ -2,7 +2,6 @@
 use Rattle.std.specs.Prelude.{◌≡◌, ℕ, List, [], ◌∷◌, ◌++◌, drop, length, map}
 use Rattle.dsd_values.specs.declared.role.Role.{Role}
 use Rattle.dsd_values.specs.declared.role.Role.TheVariants.{Receiver, Supplier}
-use Rattle.dsd_station.specs.declared.call.Call.{Call}
 use Rattle.cable_world.specs.Cables.{waiting_as}
 use Rattle.cable_world.specs.Scenes.{sent_to}
 use Rattle.cable_world.specs.Seats.{SeatView, with_spoken}

@@ -1,10 +1,10 @@
 -- What an end's opening and polls do at its station in memory.
-use Rattle.std.specs.Prelude.{◌≡◌, ◌<◌, ◌++◌, true, false, if◌then◌else◌, List, Option, Some, None, Result, Ok, Err}
+use Rattle.std.specs.Prelude.{◌≡◌, ◌<◌, ◌++◌, true, false, if◌then◌else◌, List, Some, None, Result, Ok, Err}
 use Rattle.dsd_station.specs.declared.call.Call.{Call}
 use Rattle.dsd_station.specs.ByPlan.{EachAnswered}
 use Rattle.dsd_station.specs.Logged.{Log}
 use Rattle.dsd_station.specs.Planned.{no_plan}
-use Rattle.dsd_station.specs.Replayed.{state_of, told_from}
+use Rattle.dsd_station.specs.Replayed.{IsFine, state_of, told_from}
 use Rattle.dsd_station.specs.Told.{Told}
 use Rattle.dsd_journal.specs.Journals.{Rests}
 use Rattle.dsd_journal.specs.declared.entry.Entry.{Entry}
@@ -52,6 +52,7 @@ pub record PlayerPolls (answer : Answer) (old new : PlayerView) (before after : 
   pub titled : new.standing.header ≡ old.standing.header
   pub runs : (first : List Entry) (beginning : Told) → Runs (chooser_by old.choices) first beginning old.standing (told_of before.calls)
       → Runs (chooser_by old.choices) first beginning new.standing (told_of after.calls)
+  pub fine : IsFine (state_of after.calls)
   pub pollable : runs_by answer ≡ true → IsPollable new after.calls
   pub patience : runs_by answer ≡ true → patience new.standing < patience old.standing
 

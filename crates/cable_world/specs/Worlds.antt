@@ -63,8 +63,39 @@ pub record IsNew (world : WorldView) : Type 0 where
   pub receiver_is : IsFormatted (header_of world.script Receiver) receiver
   pub none : world.noted ≡ []
   pub scene : world.scene ≡ first_scene handheld receiver
+  pub handheld_refused : world.handheld_refused ≡ 0
+  pub receiver_refused : world.receiver_refused ≡ 0
 
--- A world that has played all events of its script: from two formatted stations its steps obey the script, and each makes calls of its kind alone. The images are those that were left behind the last event.
+-- ---- what its steps show of each end
+
+-- What the steps tell of this end, whose station was so at first: each run leaves a list that its rules allow, each poll is one step of its table,
+-- rules and choices, and the sets that it has refused are those of its last standing.
+pub record IsTold (world : WorldView) (role : Role) (first : Log) : Type 0 where
+  pub begun : IsBegun role (header_of world.script role) first (steps_of world.noted)
+  pub last : Option Standing
+  pub diligent : ComesBy role (chooser_of world.script role) (header_of world.script role) (state_of first.calls) None world.noted last
+  pub refused : refused_in last ≡ refused_by world role
+
+-- These are the runs of this end, as the steps show them. They are a life, and the image that its station has holds the list which they leave.
+pub record IsLifeIn (world : WorldView) (role : Role) (runs : List Run) : Type 0 where
+  pub are : AreRunsOf (parts_of role (steps_of world.noted)).runs runs
+  pub life : IsLife role runs
+  pub holds : Holds (header_of world.script role) (last_list runs) (image_by (side world.scene role).log)
+
+-- The runs of both ends are two lives. Without HEAR the cable is honest, and over an honest cable on which no two sets clash, what both
+-- ends finalise is the same record.
+pub record IsTwoLives (world : WorldView) : Type 0 where
+  pub handheld : List Run
+  pub receiver : List Run
+  pub handheld_is : IsLifeIn world Supplier handheld
+  pub receiver_is : IsLifeIn world Receiver receiver
+  pub honest : HasNoHear world.script.events → IsHonestCable handheld receiver
+  pub agree : IsHonestCable handheld receiver → NoClash handheld receiver → Agree handheld receiver
+
+-- ---- when all was played
+
+-- A world that has played all events of its script: from two formatted stations its steps obey the script, each makes calls
+-- of its kind alone, and they are what each end tells; the runs are two lives. The images are those that were left behind the last event.
 pub record HasPlayed (world : WorldView) : Type 0 where
   pub handheld : Log
   pub receiver : Log
@@ -73,6 +104,9 @@ pub record HasPlayed (world : WorldView) : Type 0 where
   pub last : Scene
   pub obeys : Obeys world.script.events (first_scene handheld receiver) (steps_of world.noted) last
   pub calls : CallSo (steps_of world.noted)
+  pub handheld_told : IsTold world Supplier handheld
+  pub receiver_told : IsTold world Receiver receiver
+  pub lives : IsTwoLives world
   pub handheld_image : image_by world.scene.supplier.log ≡ image_by last.supplier.log
   pub receiver_image : image_by world.scene.receiver.log ≡ image_by last.receiver.log
 

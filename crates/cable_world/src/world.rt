@@ -4,7 +4,7 @@ ghost use Rattle.std.specs.Prelude.{◌≡◌, IfOk, OnOk};
 ghost use Rattle.dsd_station.specs.Logged.{image_by};
 ghost use Rattle.cable_world.specs.Scenes.{side};
 ghost use Rattle.cable_world.specs.WorldReports.{IsReportOf};
-ghost use Rattle.cable_world.specs.Worlds.{HasPlayed, IsNew};
+ghost use Rattle.cable_world.specs.Worlds.{HasPlayed, IsNew, IsTwoLives};
 
 use crate::cable::Cable;
 use crate::events::Events;
@@ -13,6 +13,7 @@ use crate::script::Script;
 use crate::setting::Setting;
 use crate::stage::Stage;
 use crate::world_report::WorldReport;
+use dsd_journal::an_image_holds_one_list;
 use dsd_values::{Memory, Role};
 use std::alloc::Global;
 use std::marker::Model;
@@ -62,9 +63,13 @@ impl World {
         requires { self.old.stage ≡ Stage.New }
         ensures script { OnOk result (self.new.script ≡ self.old.script) }
         ensures stage { OnOk result (self.new.stage ≡ Stage.Played) }
-        // The steps obey the script.
+        // The steps obey the script, and they are what each end tells of its runs.
         ensures played { OnOk result (HasPlayed self.new) }
+        // Both ends hold the same record.
+        ensures lives { OnOk result (IsTwoLives self.new) }
     {
+        // Of each image it is known that it holds one list at most.
+        an_image_holds_one_list();
         self.stage = Stage::Broken;
         match self.cable.play_all(self.events.as_slice()) {
             Ok(()) => {
@@ -83,6 +88,7 @@ impl World {
         ensures stage { OnOk result (self.new.stage ≡ Stage.Finished) }
         ensures steps { OnOk result (self.new.noted ≡ self.old.noted) }
         ensures played { OnOk result (HasPlayed self.new) }
+        ensures lives { OnOk result (IsTwoLives self.new) }
         // The report is of the images that the last event left.
         ensures report { IfOk result (IsReportOf self.new) }
         ensures images { OnOk result ((role : Role) → image_by (side self.new.scene role).log ≡ image_by (side self.old.scene role).log) }

@@ -16,7 +16,8 @@ pub record Worlds : Type 0 where
 abbrev pub worlds_of : Option WorldView → Option WorldView → Worlds
 worlds_of old new = record { before = old; after = new }
 
--- All events of the script were played on this world: its steps obey the script, each event with its effect. The report is of the images that it has.
+-- All events of the script were played on this world: its steps obey the script, each event with its effect, and the runs of both ends are two lives,
+-- so that both hold the same record. The report is of the images that it has.
 pub record HasReplayed (script : Script) (world : WorldView) (report : WorldReport) : Type 0 where
   pub script_is : world.script ≡ script
   pub finished : world.stage ≡ Finished

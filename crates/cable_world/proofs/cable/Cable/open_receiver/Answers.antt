@@ -14,7 +14,7 @@ returns-in-Ok c =
     let from = length c.calls.result.now + 1 in
     record {
       goes = on_ok_so c.note_receiver.result (NotesReceiver from c.in-Ok.answer (record old { receiver = c.start.new.self }) new) (Goes (IsOpened Receiver) old new) c.note_receiver.ensures
-          (λ n. open_receiver (chooser_at old.setting Receiver) old new c.start.new.self c.in-Ok.answer from c.in-Ok.ensures.starts c.in-Ok.ensures.ready
+          (λ n. open_receiver old new c.start.new.self c.in-Ok.answer from c.in-Ok.ensures.starts c.in-Ok.ensures.ready
           (ap (λ (l : List Call). length l + 1) c.calls.ensures.value) n c.requires.ready);
     }
 
