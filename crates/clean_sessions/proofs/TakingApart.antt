@@ -10,12 +10,12 @@ use Rattle.dsd_record.specs.ReadSets.{set_in}
 use Rattle.dsd_record.specs.declared.set_view.SetView.{SetView}
 use Rattle.dsd_journal.specs.declared.entry.Entry.{Entry}
 use Rattle.dxs_envelope.specs.declared.fault.EnvelopeFault.{EnvelopeFault}
-use Rattle.delivery_book.specs.Deeds.{Deed, deed_of, deed_with, deeds_of, number_in, of_delivery, proposes}
+use Rattle.delivery_book.specs.Deeds.{deed_of, deed_with, deeds_of, number_in, of_delivery, proposes}
 use Rattle.delivery_book.specs.Refusals.{was_taken}
 use Rattle.delivery_book.proofs.Grown.{of_other}
 use Rattle.delivery_book.proofs.Listed.{deeds_more}
-use Rattle.own_turn.specs.DueSets.{Asked, asked_of, unasked, with_known, with_known_set}
-use Rattle.own_turn.specs.OwnTurn.{Desk, InTurn, Takes, TakesSet, lent, sets_lent, took, with_entry, with_fault}
+use Rattle.own_turn.specs.DueSets.{Asked, asked_of, with_known, with_known_set}
+use Rattle.own_turn.specs.OwnTurn.{Desk, InTurn, Takes, TakesSet, lent, sets_lent, took, with_fault}
 use Rattle.clean_sessions.specs.Untouched.{AreOther, IsOther, IsUntouched}
 use Rattle.clean_sessions.proofs.AskedApart.{other_asked}
 use Rattle.clean_sessions.proofs.BoolTests.{never_both}
@@ -32,12 +32,12 @@ module _ (number : List ℕ) (entries : List Entry) (entry : Entry) where
       ∙ of_other number (deeds_of entries) (record { kind = entry.kind; text = entry.payload; set = set })
       (λ same. never_both _ ((bytes_eq-Decides (number_in set) number).1 same) (other set e))
 
-  entry_other : IsOther number entry.payload → of_delivery number (deeds_of (entries ++ entry ∷ [])) ≡ of_delivery number (deeds_of entries)
+  pub entry_other : IsOther number entry.payload → of_delivery number (deeds_of (entries ++ entry ∷ [])) ≡ of_delivery number (deeds_of entries)
   entry_other other = entry_by (set_in entry.payload) refl other
 
 -- ---- what due sets ask
 
-asked_number : (key : List ℕ) (all : List Asked) → (asked_of key all).number ≡ key
+pub asked_number : (key : List ℕ) (all : List Asked) → (asked_of key all).number ≡ key
 asked_number key [] = refl
 asked_number key (first ∷ more) = elim (cases_Bool (bytes_eq first.number key)) [
   | inl same ↦ subst (λ (b : Bool). let a : Asked = (if b then first else asked_of key more) in a.number ≡ key) (sym same) ((bytes_eq-Decides first.number key).0 same)
@@ -70,7 +70,7 @@ module _ (role : Role) (number : List ℕ) where
   passed_if true desk text other = record { deeds = refl; asked = known_set_other number text desk.asked (set_in text) refl other }
   passed_if false desk text other = record { deeds = refl; asked = refl }
 
-  one_taken : (text : List ℕ) (old new : Desk) → IsOther number text → TakesSet role text old new → IsUntouched number old new
+  pub one_taken : (text : List ℕ) (old new : Desk) → IsOther number text → TakesSet role text old new → IsUntouched number old new
   one_taken text old new other (inl (legal, e)) =
       subst (IsUntouched number old) (sym e) (record { deeds = entry_other number old.entries (took text) other; asked = refl })
   one_taken text old new other (inr (illegal, e)) = subst (IsUntouched number old) (sym e) (passed_if (was_taken text old.entries) old text other)
@@ -80,7 +80,7 @@ module _ (role : Role) (number : List ℕ) where
   each_taken (text ∷ more) old new others (next, one, rest) =
       then_untouched number old next new (one_taken text old next others.0 one) (each_taken more next new others.1 rest)
 
-  fault_left : (fault : Option EnvelopeFault) (desk : Desk) → IsUntouched number desk (with_fault desk fault)
+  pub fault_left : (fault : Option EnvelopeFault) (desk : Desk) → IsUntouched number desk (with_fault desk fault)
   fault_left None desk = record { deeds = refl; asked = refl }
   fault_left (Some fault) desk = record { deeds = refl; asked = refl }
 

@@ -12,3 +12,4 @@ pub mod Sessions
 pub mod Beginnings
 pub mod ChosenAnswers
 pub mod Untouched
+pub mod DeliveryStands

@@ -6,14 +6,17 @@
 //! one course, no set is spoken more than twice and from empty lists each once, and behind two turns in a row in which
 //! nothing of it is due both ends have its whole course.
 //!
-//! What they do not say yet: that an own turn makes of two lists what the turns of the courses of their deliveries make.
-//! So it is not said that a clean session comes to an end, nor that what both ends accept is final at both; what is said
-//! of a session is said of one that has come to its second turn in succession without a block. Nor is it said that a world
-//! makes these steps in a clean event: completeness is no clause of the program.
+//! An own turn, as the program's ends take it, is a turn of the course of each delivery, where the end goes on with the
+//! course and what it signs of a delivery is a set of it; and it leaves both lists as the next turn finds them.
+//!
+//! What they do not say yet: that a clean session comes to an end, nor that what both ends accept is final at both; what
+//! is said of a session is said of one that has come to its second turn in succession without a block. Nor is it said that
+//! a world makes these steps in a clean event: completeness is no clause of the program.
 #![tactic(auto)]
 
 mod block_laws;
 mod course_laws;
+mod delivery_laws;
 mod line_laws;
 mod poll_laws;
 mod talk_laws;
@@ -24,6 +27,7 @@ pub use course_laws::{
     blocks_run_out, courses_are_done, deeds_take_turns, lists_are_fronts, lists_have_one_course,
     sets_are_spoken_once, turns_keep_places, turns_run_out,
 };
+pub use delivery_laws::own_turns_follow_courses;
 pub use line_laws::{headers_pass, turns_pass};
 pub use poll_laws::turns_are_few;
 pub use talk_laws::{

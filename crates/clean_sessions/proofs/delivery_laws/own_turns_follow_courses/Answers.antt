@@ -1,0 +1,8 @@
+use Rattle.clean_sessions.proofs.DeliveryTurns.{between_next, turn_taken}
+use Rattle.clean_sessions.proofs.delivery_laws.own_turns_follow_courses.Goals as goal
+
+pub returns : goal.returns
+returns c = record {
+  between = λ header chooser old partner new sets text load signing between turned. between_next header chooser signing old partner new sets text load between turned;
+  turn = λ header chooser old partner new sets text load signing between turned course number f. turn_taken header chooser signing old partner new sets text load between turned course number f;
+}
