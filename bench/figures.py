@@ -155,6 +155,13 @@ def captured_line():
     return turn * (4_100_000 // len(turn))
 
 
+def replayed_route():
+    """A script of 200 deliveries of 50 lines, in each fourth of which one item less is found, and one clean session."""
+    drafts, counts = route(200)
+    ends = b"HANDHELD HH00000001 RR00000001\nRECEIVER RR00000001 HH00000001\n"
+    return ends + b"DRAFTS\n" + drafts + b"COUNTS\n" + counts + b"EVENTS\nCLEAN\n"
+
+
 INPUTS = [
     ("set", ["check", "set"], full_set),
     ("allowances", ["check", "set"], set_with_allowances),
@@ -162,6 +169,7 @@ INPUTS = [
     ("refused", ["check", "set"], refused_early),
     ("text", ["check", "text"], small_sets),
     ("line", ["check", "line"], captured_line),
+    ("replay", ["replay"], replayed_route),
 ]
 
 

@@ -101,4 +101,5 @@ report_of report old new events later f =
       receiver_left = left_with left Receiver f.receiver (image_by old.receiver.log) (sym f.receiver_image) f.receiver_over;
       lines = f.tells.lines;
       all_final = f.tells.all_final;
+      counted = f.tells.counted;
     }

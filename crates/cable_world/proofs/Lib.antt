@@ -14,6 +14,7 @@ mod WorldCable
 mod Recorded
 mod JoinedRuns
 mod ByStation
+mod Counted
 mod CutScripts
 mod Partly
 mod PlayerPolled

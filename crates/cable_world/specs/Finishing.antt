@@ -16,18 +16,19 @@ use Rattle.cable_world.specs.Cables.{IsStepIn, cable_of, part_in, seat}
 use Rattle.cable_world.specs.LastRuns.{last_behind, last_run_of}
 use Rattle.cable_world.specs.Settings.{chooser_at}
 use Rattle.cable_world.specs.Steps.{same_role}
-use Rattle.cable_world.specs.WorldReports.{heading}
+use Rattle.cable_world.specs.WorldReports.{IsCounted, heading}
 use Rattle.cable_world.specs.declared.cable.Cable.{Cable}
 use Rattle.cable_world.specs.StepsKept.{StepView}
 use Rattle.cable_world.specs.declared.world_report.WorldReport.{WorldReport}
 
 -- ---- a station
 
--- a book of this end over the image
+-- a book of this end over the image, as it was opened
 pub record IsOver (role : Role) (image : List ℕ) (book : BookView) : Type 0 where
   pub own : book.header.role ≡ role
   pub holds : Holds book.header book.known image
   pub legal : Legal role book.known
+  pub unchanged : book.known ≡ book.entries
 
 -- A station that works, on which nothing is armed that has not fallen.
 pub record IsUnarmed (log : Log) : Type 0 where
@@ -61,6 +62,7 @@ part_of cable role entries =
 pub record Tells (report : WorldReport) (cable : Cable) (handheld receiver : BookView) : Type 0 where
   pub lines : report.lines.items ≡ part_of cable Supplier handheld.known ++ part_of cable Receiver receiver.known
   pub all_final : report.all_final ≡ are_final_at_both handheld.known receiver.known (chooser_at cable.setting Supplier).drafts
+  pub counted : IsCounted report handheld.known receiver.known
 
 -- The images are as they were, and of each end the report is that of a book over its image.
 pub record Finishes (report : WorldReport) (old new : Cable) : Type 0 where

@@ -1,5 +1,5 @@
 -- Reading a script line by line, with the first reason against each line.
-use Rattle.std.specs.Prelude.{◌&&◌, ℕ, not, nat_le, List, [], ◌∷◌, ◌++◌, length, codes, Option, Some, None, Result, Ok, Err, if◌then◌else◌}
+use Rattle.std.specs.Prelude.{◌&&◌, ℕ, Bool, false, not, nat_le, List, [], ◌∷◌, ◌++◌, length, codes, Option, Some, None, Result, Ok, Err, if◌then◌else◌}
 use Rattle.dsd_values.specs.Reading.{comm_id_of}
 use Rattle.dsd_values.specs.declared.role.Role.{Role}
 use Rattle.dsd_values.specs.declared.role.Role.TheVariants.{Receiver, Supplier}
@@ -77,6 +77,15 @@ event_by (Some deed) script line = refused_if (not (has_words line (word_count d
 
 abbrev pub playing : Script → LineSeen → Result ScriptSoFar DraftFault
 playing script line = event_by (deed_of line) script line
+
+-- the line behind which the next part stands
+abbrev pub leaves : ScriptSoFar → LineSeen → Bool
+leaves parts.Nothing line = false
+leaves (parts.Handheld handheld) line = false
+leaves (parts.Named ends) line = false
+leaves (parts.Drafting ends drafts) line = is_between_drafts drafts.part && leads line (codes "COUNTS")
+leaves (parts.Counting ends drafts counts) line = is_between_counts counts.part && leads line (codes "EVENTS")
+leaves (parts.Playing script) line = false
 
 unfoldable pub script_step : ScriptSoFar → LineSeen → Result ScriptSoFar DraftFault
 script_step parts.Nothing line = with_handheld line

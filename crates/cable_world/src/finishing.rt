@@ -9,7 +9,9 @@ ghost use Rattle.cable_world.specs.LastRuns.{last_run_of};
 
 use crate::cable::Cable;
 use crate::last_run::last_run;
-use crate::world_report::WorldReport;
+use crate::world_report::{
+    WorldReport, adjusted_at_both, amount_of_finals, finals_at_both, quantity_of_finals,
+};
 use delivery_book::Book;
 use dsd_values::{Memory, Role};
 use end_report::{LastRun, are_settled_at_both, put, put_report};
@@ -34,7 +36,9 @@ impl Cable {
 
     /// The report of these books, which are let go.
     fn report(&self, handheld: Book, receiver: Book) -> Result<WorldReport, Memory>
-        requires { AreStepsIn self.now.handheld.log.calls self.now.receiver.log.calls self.now.steps.items }
+        requires steps { AreStepsIn self.now.handheld.log.calls self.now.receiver.log.calls self.now.steps.items }
+        requires handheld { handheld.known ≡ handheld.entries }
+        requires receiver { receiver.known ≡ receiver.entries }
         ensures { IfOk result (λ report. Tells report self.now handheld receiver) }
     {
         let told = self.told(&handheld, &receiver);
@@ -45,14 +49,22 @@ impl Cable {
 
     /// What is told of these books, and of how the last run of each end came out.
     fn told(&self, handheld: &Book, receiver: &Book) -> Result<WorldReport, Memory>
-        requires { AreStepsIn self.now.handheld.log.calls self.now.receiver.log.calls self.now.steps.items }
+        requires steps { AreStepsIn self.now.handheld.log.calls self.now.receiver.log.calls self.now.steps.items }
+        requires handheld { handheld.now.known ≡ handheld.now.entries }
+        requires receiver { receiver.now.known ≡ receiver.now.entries }
         ensures { IfOk result (λ report. Tells report self.now handheld.now receiver.now) }
     {
         let mut lines = Vec::new(self.alloc);
         self.put_handheld(&mut lines, handheld)?;
         self.put_receiver(&mut lines, receiver)?;
-        let all_final = are_settled_at_both(handheld, receiver, &self.setting.drafts);
-        Ok(WorldReport { lines, all_final })
+        Ok(WorldReport {
+            lines,
+            all_final: are_settled_at_both(handheld, receiver, &self.setting.drafts),
+            finals: finals_at_both(handheld, receiver),
+            adjusted: adjusted_at_both(handheld, receiver),
+            quantity: quantity_of_finals(handheld),
+            amount: amount_of_finals(handheld),
+        })
     }
 
     fn put_handheld(&self, out: &mut Vec<u8>, book: &Book) -> Result<(), AllocError>

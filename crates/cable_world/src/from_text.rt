@@ -34,7 +34,10 @@ impl Script {
         let mut lines = PlainLines::new(text);
         let mut so_far = ScriptSoFar::Nothing;
         while let Some(line) = lines.next() {
-            so_far = so_far.take_line(alloc, &line)?;
+            match so_far.take(alloc, &line) {
+                Ok(()) => {}
+                Err(fault) => return Err(fault),
+            }
         }
         so_far.finish(lines.end())
     }

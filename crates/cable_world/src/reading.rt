@@ -2,10 +2,12 @@
 
 ghost use Rattle.std.specs.Prelude.{◌≡◌, true};
 ghost use Rattle.dsd_values.specs.Answers.{UnlessMemory};
+ghost use Rattle.plain_lines.specs.Refusing.{Steps};
 ghost use Rattle.handheld_core.specs.Reading.{is_between as is_between_drafts};
 ghost use Rattle.receiver_core.specs.Reading.{is_between as is_between_counts};
-ghost use Rattle.cable_world.specs.Reading.{counting, counts_begun, drafting, drafts_begun, event_added, events_begun, finished, header_at, playing, script_step, with_handheld, with_receiver};
+ghost use Rattle.cable_world.specs.Reading.{counting, counts_begun, drafting, drafts_begun, event_added, events_begun, finished, header_at, leaves, playing, script_step, with_handheld, with_receiver};
 ghost use Rattle.cable_world.specs.ScriptTexts.{end_word as word_of_end};
+ghost use Rattle.cable_world.specs.declared.reading.ScriptSoFar.TheVariants as parts;
 
 use crate::deed::Deed;
 use crate::event_line::read_event;
@@ -18,6 +20,7 @@ use handheld_core::{Drafts, DraftsSoFar};
 use plain_lines::{PlainLine, misplaced, refuse, value};
 use receiver_core::CountsSoFar;
 use std::alloc::Global;
+use std::mem;
 
 /// What a script has said so far.
 #[derive(Debug, Drop)]
@@ -36,13 +39,49 @@ pub(crate) enum ScriptSoFar {
 }
 
 impl ScriptSoFar {
-    /// Takes one more line.
+    /// Takes one more line. A line of a part that goes on is taken by that part, and nothing moves.
     #[tactic(auto, unfolding(crate::specs::Reading::script_step))]
-    pub(crate) fn take_line(
-        self,
-        alloc: Global,
-        line: &PlainLine<'_>,
-    ) -> Result<ScriptSoFar, DraftFault>
+    pub(crate) fn take(&mut self, alloc: Global, line: &PlainLine<'_>) -> Result<(), DraftFault>
+        ensures { Steps result self.new (script_step self.old line.now) }
+    {
+        if self.is_left_by(line) {
+            return self.take_moved(alloc, line);
+        }
+        match self {
+            ScriptSoFar::Drafting(_, drafts) => drafts.take(alloc, line),
+            ScriptSoFar::Counting(_, _, counts) => counts.take(alloc, line),
+            ScriptSoFar::Playing(script) => take_event(alloc, script, line),
+            _ => self.take_moved(alloc, line),
+        }
+    }
+
+    /// Whether the drafts or the counts have an end at this line, behind which the next part stands.
+    fn is_left_by(&self, line: &PlainLine<'_>) -> bool
+        ensures { result ≡ leaves self.now line.now }
+    {
+        match self {
+            ScriptSoFar::Drafting(_, drafts) => drafts.is_between() && line.leads(b"COUNTS"),
+            ScriptSoFar::Counting(_, _, counts) => counts.is_between() && line.leads(b"EVENTS"),
+            _ => false,
+        }
+    }
+
+    /// Takes one more line, whatever it is.
+    fn take_moved(&mut self, alloc: Global, line: &PlainLine<'_>) -> Result<(), DraftFault>
+        ensures { Steps result self.new (script_step self.old line.now) }
+    {
+        let so_far = mem::replace(self, ScriptSoFar::Nothing);
+        match so_far.take_line(alloc, line) {
+            Ok(next) => {
+                *self = next;
+                Ok(())
+            }
+            Err(fault) => Err(fault),
+        }
+    }
+
+    #[tactic(auto, unfolding(crate::specs::Reading::script_step))]
+    fn take_line(self, alloc: Global, line: &PlainLine<'_>) -> Result<ScriptSoFar, DraftFault>
         ensures { UnlessMemory DraftFault.Memory result (script_step self line.now) }
     {
         match self {
@@ -53,7 +92,7 @@ impl ScriptSoFar {
             ScriptSoFar::Counting(ends, drafts, counts) => {
                 take_count_line(alloc, ends, drafts, counts, line)
             }
-            ScriptSoFar::Playing(script) => take_event(alloc, script, line),
+            ScriptSoFar::Playing(script) => play_on(alloc, script, line),
         }
     }
 
@@ -122,7 +161,7 @@ fn begin_drafts(alloc: Global, ends: Ends, line: &PlainLine<'_>) -> Result<Scrip
 fn take_draft_line(
     alloc: Global,
     ends: Ends,
-    drafts: DraftsSoFar,
+    mut drafts: DraftsSoFar,
     line: &PlainLine<'_>,
 ) -> Result<ScriptSoFar, DraftFault>
     ensures { UnlessMemory DraftFault.Memory result (drafting ends drafts line.now) }
@@ -130,8 +169,8 @@ fn take_draft_line(
     if drafts.is_between() && line.leads(b"COUNTS") {
         return begin_counts(alloc, ends, drafts, line);
     }
-    match drafts.take_line(alloc, line) {
-        Ok(drafts) => Ok(ScriptSoFar::Drafting(ends, drafts)),
+    match drafts.take(alloc, line) {
+        Ok(()) => Ok(ScriptSoFar::Drafting(ends, drafts)),
         Err(fault) => Err(fault),
     }
 }
@@ -143,12 +182,12 @@ fn begin_counts(
     line: &PlainLine<'_>,
 ) -> Result<ScriptSoFar, DraftFault>
     requires { is_between_drafts drafts.part ≡ true }
-    ensures { result ≡ counts_begun ends drafts.done line.now }
+    ensures { UnlessMemory DraftFault.Memory result (counts_begun ends drafts.done line.now) }
 {
     if let Some(reason) = misplaced(line, b"COUNTS", 1) {
         return Err(refuse(line, reason));
     }
-    match drafts.finish(line.place()) {
+    match drafts.finish(alloc, line.place()) {
         Ok(drafts) => Ok(ScriptSoFar::Counting(ends, drafts, CountsSoFar::new(alloc))),
         Err(fault) => Err(fault),
     }
@@ -159,7 +198,7 @@ fn take_count_line(
     alloc: Global,
     ends: Ends,
     drafts: Drafts,
-    counts: CountsSoFar,
+    mut counts: CountsSoFar,
     line: &PlainLine<'_>,
 ) -> Result<ScriptSoFar, DraftFault>
     ensures { UnlessMemory DraftFault.Memory result (counting ends drafts counts line.now) }
@@ -167,8 +206,8 @@ fn take_count_line(
     if counts.is_between() && line.leads(b"EVENTS") {
         return begin_events(alloc, ends, drafts, counts, line);
     }
-    match counts.take_line(alloc, line) {
-        Ok(counts) => Ok(ScriptSoFar::Counting(ends, drafts, counts)),
+    match counts.take(alloc, line) {
+        Ok(()) => Ok(ScriptSoFar::Counting(ends, drafts, counts)),
         Err(fault) => Err(fault),
     }
 }
@@ -181,12 +220,12 @@ fn begin_events(
     line: &PlainLine<'_>,
 ) -> Result<ScriptSoFar, DraftFault>
     requires { is_between_counts counts.part ≡ true }
-    ensures { result ≡ events_begun ends drafts counts.done line.now }
+    ensures { UnlessMemory DraftFault.Memory result (events_begun ends drafts counts.done line.now) }
 {
     if let Some(reason) = misplaced(line, b"EVENTS", 1) {
         return Err(refuse(line, reason));
     }
-    match counts.finish(line.place()) {
+    match counts.finish(alloc, line.place()) {
         Ok(counts) => Ok(ScriptSoFar::Playing(Script {
             ends,
             drafts,
@@ -197,13 +236,23 @@ fn begin_events(
     }
 }
 
-/// Takes an event.
-fn take_event(
+/// Takes an event, and goes on.
+fn play_on(
     alloc: Global,
-    script: Script,
+    mut script: Script,
     line: &PlainLine<'_>,
 ) -> Result<ScriptSoFar, DraftFault>
     ensures { UnlessMemory DraftFault.Memory result (playing script line.now) }
+{
+    match take_event(alloc, &mut script, line) {
+        Ok(()) => Ok(ScriptSoFar::Playing(script)),
+        Err(fault) => Err(fault),
+    }
+}
+
+/// Takes an event.
+fn take_event(alloc: Global, script: &mut Script, line: &PlainLine<'_>) -> Result<(), DraftFault>
+    ensures { Steps result (parts.Playing script.new) (playing script.old line.now) }
 {
     let Some(deed) = Deed::of(line) else {
         return Err(refuse(line, DraftReason::Line));
@@ -217,16 +266,15 @@ fn take_event(
 /// Adds an event behind the others: there may be only so many.
 fn add_event(
     alloc: Global,
-    mut script: Script,
+    script: &mut Script,
     deed: Deed,
     line: &PlainLine<'_>,
-) -> Result<ScriptSoFar, DraftFault>
-    ensures { UnlessMemory DraftFault.Memory result (event_added script line.now deed) }
+) -> Result<(), DraftFault>
+    ensures { Steps result (parts.Playing script.new) (event_added script.old line.now deed) }
 {
     if script.events.as_slice().len() >= MOST_EVENTS {
         return Err(refuse(line, DraftReason::Limit));
     }
     let event = read_event(alloc, deed, line)?;
-    script.events.push(event)?;
-    Ok(ScriptSoFar::Playing(script))
+    Ok(script.events.push(event)?)
 }

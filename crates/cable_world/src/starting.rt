@@ -49,13 +49,13 @@ fn start_handheld(
     ensures unstarved { IfOk result (λ opened. station.new.starved ≡ false) }
 {
     match station.restart() {
-        Ok(()) => open_copied_handheld(alloc, station, setting),
+        Ok(()) => open_sharing_handheld(alloc, station, setting),
         Err(memory) => Err(memory),
     }
 }
 
-/// Opens the handheld's end with a copy of its choices.
-fn open_copied_handheld(
+/// Opens the handheld's end with its choices, which it shares.
+fn open_sharing_handheld(
     alloc: Global,
     station: &mut MemoryStation,
     setting: &Setting,
@@ -65,7 +65,7 @@ fn open_copied_handheld(
     ensures opens { (before : Log) → station.old ≡ after_restart before → IfOk result (λ opened. PlayerOpens Supplier (supplier setting.now.drafts) opened before station.new) }
     ensures unstarved { IfOk result (λ opened. station.new.starved ≡ false) }
 {
-    match setting.drafts.try_copy(alloc) {
+    match setting.drafts.try_clone() {
         Ok(drafts) => open_handheld(alloc, station, drafts),
         Err(memory) => Err(memory),
     }
@@ -101,13 +101,13 @@ fn start_receiver(
     ensures unstarved { IfOk result (λ opened. station.new.starved ≡ false) }
 {
     match station.restart() {
-        Ok(()) => open_copied_receiver(alloc, station, setting),
+        Ok(()) => open_sharing_receiver(alloc, station, setting),
         Err(memory) => Err(memory),
     }
 }
 
-/// Opens the receiver's end with a copy of its choices.
-fn open_copied_receiver(
+/// Opens the receiver's end with its choices, which it shares.
+fn open_sharing_receiver(
     alloc: Global,
     station: &mut MemoryStation,
     setting: &Setting,
@@ -117,7 +117,7 @@ fn open_copied_receiver(
     ensures opens { (before : Log) → station.old ≡ after_restart before → IfOk result (λ opened. PlayerOpens Receiver (receiver setting.now.counts) opened before station.new) }
     ensures unstarved { IfOk result (λ opened. station.new.starved ≡ false) }
 {
-    match setting.counts.try_copy(alloc) {
+    match setting.counts.try_clone() {
         Ok(counts) => open_receiver(alloc, station, counts),
         Err(memory) => Err(memory),
     }

@@ -1,52 +1,55 @@
 //! The drafts of a supplier.
 
-ghost use Rattle.std.specs.Prelude.{◌≡◌, ◌<◌, ◌≤◌, ◌↔◌, [], ◌∷◌, ◌++◌, false, length, slice_get, IfOk, IsSome, OnOk};
+ghost use Rattle.std.specs.Prelude.{◌≡◌, ◌<◌, ◌↔◌, length, slice_get, IfOk, IsSome};
 ghost use Rattle.std.specs.Option.{option_copied};
-ghost use Rattle.handheld_core.specs.DraftTexts.{AreDrafts, draft_under, is_known};
-ghost use Rattle.handheld_core.specs.declared.drafts.TheConstants.{MOST_DRAFTS as MOST};
+ghost use Rattle.handheld_core.specs.DraftTexts.{AreDrafts, draft_under};
 
 use crate::draft::Draft;
+use crate::draft_list::DraftList;
 use dsd_values::{DeliveryNumber, Memory};
-use indexmap::IndexMap;
 use std::alloc::Global;
 use std::marker::Model;
+use std::rc::Rc;
 
 /// The most drafts of a text.
 pub const MOST_DRAFTS: usize = 200;
 
-/// What a supplier proposes, delivery by delivery.
+/// What a supplier proposes, delivery by delivery. Copies share it.
 #[derive(Debug, Drop)]
 pub struct Drafts {
-    drafts: IndexMap<DeliveryNumber, Draft>,
+    list: Rc<DraftList>,
 }
 
 impl Model for Drafts {
-    ghost use Rattle.std.specs.Prelude.{◌≡◌, List};
-    ghost use Rattle.indexmap.specs.IndexMap.{values};
-    ghost use Rattle.handheld_core.specs.DraftTexts.{AreDrafts, numbered};
+    ghost use Rattle.std.specs.Prelude.{List};
     ghost use Rattle.handheld_core.specs.declared.draft.Draft.{Draft as Item};
 
     ghost Value = { List Item };
 
-    ghost view = { λ drafts. values drafts.drafts };
-
-    ghost invariant = { λ drafts. (drafts.drafts.entries ≡ numbered (values drafts.drafts)) × AreDrafts (values drafts.drafts) };
+    ghost view = { λ drafts. drafts.list.value };
 }
 
 impl Drafts {
-    pub(crate) fn new(alloc: Global) -> Drafts
-        ensures { result ≡ [] }
+    /// Drafts that copies share from now on.
+    pub(crate) fn share(alloc: Global, list: DraftList) -> Result<Drafts, Memory>
+        ensures { IfOk result (λ drafts. drafts ≡ list) }
     {
-        Drafts {
-            drafts: IndexMap::new(alloc),
-        }
+        Ok(Drafts {
+            list: Rc::new(alloc, list)?,
+        })
+    }
+
+    fn list(&self) -> &DraftList
+        ensures { result.now ≡ self.now }
+    {
+        self.list.as_ref()
     }
 
     pub(crate) fn len(&self) -> usize
         ensures value { result ≡ length self.now }
         ensures drafts { AreDrafts self.now }
     {
-        self.drafts.len()
+        self.list().len()
     }
 
     /// The draft at a place, the first at 0.
@@ -54,45 +57,22 @@ impl Drafts {
         ensures found { IsSome result ↔ (index < length self.now) }
         ensures value { option_copied result ≡ slice_get self.now index }
     {
-        let (_, draft) = self.drafts.get_index(index)?;
-        Some(draft)
+        self.list().draft_at(index)
     }
 
     /// The draft of the delivery with this number.
     pub fn draft_of(&self, number: &DeliveryNumber) -> Option<&Draft>
         ensures { option_copied result ≡ draft_under number.now self.now }
     {
-        self.drafts.get(number)
+        self.list().draft_of(number)
     }
 
-    /// Whether there is a draft of the delivery with this number.
-    pub(crate) fn knows(&self, number: &DeliveryNumber) -> bool
-        ensures { result ≡ is_known number.now self.now }
+    /// The same drafts, shared.
+    pub fn try_clone(&self) -> Result<Drafts, Memory>
+        ensures { IfOk result (λ shared. shared ≡ self.now) }
     {
-        self.draft_of(number).is_some()
-    }
-
-    /// Adds one behind the others.
-    pub(crate) fn push(&mut self, draft: Draft) -> Result<(), Memory>
-        requires apart { is_known draft.base.number self.old ≡ false }
-        requires room { length self.old < MOST }
-        ensures { OnOk result (self.new ≡ self.old ++ draft ∷ []) }
-    {
-        // Some text spells the base record, and the counters keep their numbers apart.
-        let _ = draft.base.extras();
-        let _ = draft.counters.as_slice();
-        self.drafts.insert(draft.base.number().copy(), draft)?;
-        Ok(())
-    }
-
-    /// Equal drafts.
-    pub fn try_copy(&self, alloc: Global) -> Result<Drafts, Memory>
-        ensures { IfOk result (λ copy. copy ≡ self.now) }
-    {
-        let mut copy = Drafts::new(alloc);
-        for draft in self.drafts.values().as_slice() {
-            copy.push(draft.try_copy(alloc)?)?;
-        }
-        Ok(copy)
+        Ok(Drafts {
+            list: self.list.clone()?,
+        })
     }
 }

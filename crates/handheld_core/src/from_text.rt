@@ -36,6 +36,6 @@ impl Drafts {
         while let Some(line) = lines.next() {
             so_far.take(alloc, &line)?;
         }
-        so_far.finish(lines.end())
+        so_far.finish(alloc, lines.end())
     }
 }

@@ -5,6 +5,7 @@ mod allowance;
 mod choosing;
 mod counters;
 mod draft;
+mod draft_list;
 mod drafts;
 mod from_text;
 mod item;

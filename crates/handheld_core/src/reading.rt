@@ -10,6 +10,7 @@ ghost use Rattle.handheld_core.specs.Reading.{IsBegun, base_of, draft_step, fini
 ghost use Rattle.handheld_core.specs.declared.reading.Part.TheVariants as parts;
 
 use crate::draft::Draft;
+use crate::draft_list::DraftList;
 use crate::drafts::{Drafts, MOST_DRAFTS};
 use crate::rows::DraftRows;
 use base_record_894::{Base, BaseHead};
@@ -55,7 +56,7 @@ enum Part {
 /// Drafts so far. Each line is taken by itself, so that drafts can stand among other lines.
 #[derive(Debug, Drop)]
 pub struct DraftsSoFar {
-    done: Drafts,
+    done: DraftList,
     part: Part,
 }
 
@@ -74,7 +75,7 @@ impl DraftsSoFar {
         ensures { result ≡ nothing }
     {
         DraftsSoFar {
-            done: Drafts::new(alloc),
+            done: DraftList::new(alloc),
             part: Part::Between,
         }
     }
@@ -88,7 +89,7 @@ impl DraftsSoFar {
 
     /// Takes one more line.
     #[tactic(auto, unfolding(crate::specs::Reading::draft_step))]
-    pub fn take_line(self, alloc: Global, line: &PlainLine<'_>) -> Result<DraftsSoFar, DraftFault>
+    fn take_line(self, alloc: Global, line: &PlainLine<'_>) -> Result<DraftsSoFar, DraftFault>
         ensures { UnlessMemory DraftFault.Memory result (draft_step self line.now) }
     {
         let DraftsSoFar { done, part } = self;
@@ -102,7 +103,7 @@ impl DraftsSoFar {
 
     /// Takes one more line. A row goes into the open draft where that is, and nothing moves.
     #[tactic(auto, unfolding(crate::specs::Reading::draft_step))]
-    pub(crate) fn take(&mut self, alloc: Global, line: &PlainLine<'_>) -> Result<(), DraftFault>
+    pub fn take(&mut self, alloc: Global, line: &PlainLine<'_>) -> Result<(), DraftFault>
         ensures { Steps result self.new (draft_step self.old line.now) }
     {
         match &mut self.part {
@@ -126,12 +127,12 @@ impl DraftsSoFar {
     }
 
     /// The drafts, where the text does not end inside one; it ends at this place.
-    pub fn finish(self, end: usize) -> Result<Drafts, DraftFault>
-        ensures { result ≡ finished end self }
+    pub fn finish(self, alloc: Global, end: usize) -> Result<Drafts, DraftFault>
+        ensures { UnlessMemory DraftFault.Memory result (finished end self) }
     {
         let DraftsSoFar { done, part } = self;
         match part {
-            Part::Between => Ok(done),
+            Part::Between => Ok(Drafts::share(alloc, done)?),
             _ => Err(DraftFault::Refused {
                 place: end,
                 reason: DraftReason::Line,
@@ -141,7 +142,7 @@ impl DraftsSoFar {
 }
 
 /// Takes the head of a draft.
-fn begin(done: Drafts, line: &PlainLine<'_>) -> Result<DraftsSoFar, DraftFault>
+fn begin(done: DraftList, line: &PlainLine<'_>) -> Result<DraftsSoFar, DraftFault>
     ensures { result ≡ in_part parts.Between done line.now }
 {
     if let Some(reason) = misplaced(line, b"DRAFT", 8) {
@@ -183,7 +184,7 @@ fn read_head(line: &PlainLine<'_>) -> Result<BaseHead, DraftFault>
 }
 
 /// Takes what the delivery is signed with.
-fn sign(done: Drafts, head: BaseHead, line: &PlainLine<'_>) -> Result<DraftsSoFar, DraftFault>
+fn sign(done: DraftList, head: BaseHead, line: &PlainLine<'_>) -> Result<DraftsSoFar, DraftFault>
     requires { IsBegun head done }
     ensures { result ≡ in_part (parts.Headed head) done line.now }
 {
@@ -200,7 +201,7 @@ fn sign(done: Drafts, head: BaseHead, line: &PlainLine<'_>) -> Result<DraftsSoFa
 /// Takes the tolerance.
 fn tolerate(
     alloc: Global,
-    done: Drafts,
+    done: DraftList,
     head: BaseHead,
     signature: Signature,
     line: &PlainLine<'_>,
@@ -236,7 +237,7 @@ fn opened_draft(alloc: Global, head: BaseHead, signature: Signature, tolerance: 
 #[tactic(auto, using(crate::proofs::Ended::end_is_no_counter))]
 fn go_on(
     alloc: Global,
-    done: Drafts,
+    done: DraftList,
     mut draft: OpenDraft,
     line: &PlainLine<'_>,
 ) -> Result<DraftsSoFar, DraftFault>
@@ -338,7 +339,7 @@ fn take_allowance(
 /// Takes the end of a draft, whose rows have a price.
 fn end_draft(
     alloc: Global,
-    done: Drafts,
+    done: DraftList,
     draft: OpenDraft,
     line: &PlainLine<'_>,
 ) -> Result<DraftsSoFar, DraftFault>
@@ -354,7 +355,7 @@ fn end_draft(
 /// Prices the rows of a draft that is whole.
 fn price_draft(
     alloc: Global,
-    done: Drafts,
+    done: DraftList,
     draft: OpenDraft,
     line: &PlainLine<'_>,
 ) -> Result<DraftsSoFar, DraftFault>
@@ -384,7 +385,7 @@ fn price_draft(
 }
 
 /// Adds a draft that is whole.
-fn finish_draft(mut done: Drafts, draft: Draft) -> Result<DraftsSoFar, DraftFault>
+fn finish_draft(mut done: DraftList, draft: Draft) -> Result<DraftsSoFar, DraftFault>
     requires fresh { is_known draft.base.number done ≡ false }
     requires room { length done < MOST }
     ensures { UnlessMemory DraftFault.Memory result (Ok (record { done = done ++ draft ∷ []; part = parts.Between })) }
@@ -399,7 +400,7 @@ fn finish_draft(mut done: Drafts, draft: Draft) -> Result<DraftsSoFar, DraftFaul
 }
 
 /// Drafts of which the last goes on.
-fn going_on(done: Drafts, draft: OpenDraft) -> DraftsSoFar
+fn going_on(done: DraftList, draft: OpenDraft) -> DraftsSoFar
     requires { IsBegun draft.head done }
     ensures { result ≡ with_open done draft }
 {

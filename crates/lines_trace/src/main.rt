@@ -50,13 +50,13 @@ fn no_memory() -> io::Error {
     io::Error::from(io::ErrorKind::OutOfMemory)
 }
 
-/// Reads drafts, and prints an equal copy of them or why they are refused.
+/// Reads drafts, and prints them, as they are shared, or why they are refused.
 fn read_drafts<W: Write>(alloc: Global, out: &mut W, text: &[u8]) -> io::Result<Option<Drafts>> {
     match Drafts::read(alloc, text) {
         Ok(drafts) => {
-            let copy = drafts.try_copy(alloc).map_err(|_| no_memory())?;
-            print_drafts(out, &copy)?;
-            Ok(Some(copy))
+            let shared = drafts.try_clone().map_err(|_| no_memory())?;
+            print_drafts(out, &shared)?;
+            Ok(Some(shared))
         }
         Err(fault) => {
             print_refusal(out, fault)?;
@@ -82,10 +82,10 @@ fn print_draft_at<W: Write>(out: &mut W, drafts: &Drafts, index: usize) -> io::R
     print_draft(out, draft)
 }
 
-/// Reads counts, of which an equal copy is kept, or prints why they are refused.
+/// Reads counts, which are kept shared, or prints why they are refused.
 fn read_counts<W: Write>(alloc: Global, out: &mut W, text: &[u8]) -> io::Result<Option<Counts>> {
     match Counts::read(alloc, text) {
-        Ok(counts) => Ok(Some(counts.try_copy(alloc).map_err(|_| no_memory())?)),
+        Ok(counts) => Ok(Some(counts.try_clone().map_err(|_| no_memory())?)),
         Err(fault) => {
             print_refusal(out, fault)?;
             Ok(None)

@@ -60,17 +60,20 @@ signed done number line = do
   signature ← signature_in line
   Ok (record { done = done; part = parts.Signed number signature })
 
+abbrev pub going_on : List Count → Count → SoFar
+going_on done count = record { done = done; part = parts.Lines count }
+
 -- whether counters are accepted
 abbrev pub answered : List Count → List ℕ → SignatureRecord → LineSeen → Result SoFar DraftFault
 answered done number signature line = do
   counters ← value_at line 1 (answer_of (word_of_line line 1))
-  Ok (record { done = done; part = parts.Lines (record { number = number; signature = signature; counters = counters; lines = [] }) })
+  Ok (going_on done (record { number = number; signature = signature; counters = counters; lines = [] }))
 
 -- a counted line more
 abbrev pub counted : List Count → Count → LineSeen → Result SoFar DraftFault
 counted done count line = do
   lines ← counts_with count.lines line
-  Ok (record { done = done; part = parts.Lines (record count { lines = lines }) })
+  Ok (going_on done (record count { lines = lines }))
 
 abbrev pub with_item : List Count → Count → LineSeen → Result SoFar DraftFault
 with_item done count line = unless (misplaced line (codes "ITEM") 4) line (counted done count line)

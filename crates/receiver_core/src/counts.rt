@@ -1,88 +1,70 @@
 //! The counts of a receiver.
 
-ghost use Rattle.std.specs.Prelude.{◌≡◌, ◌<◌, ◌≤◌, [], ◌∷◌, ◌++◌, false, length, IfOk, OnOk};
+ghost use Rattle.std.specs.Prelude.{◌≡◌, length, IfOk};
 ghost use Rattle.std.specs.Option.{option_copied};
-ghost use Rattle.receiver_core.specs.CountTexts.{AreCounts, count_under, is_known};
-ghost use Rattle.receiver_core.specs.declared.counts.TheConstants.{MOST_COUNTS as MOST};
+ghost use Rattle.receiver_core.specs.CountTexts.{AreCounts, count_under};
 
 use crate::count::Count;
+use crate::count_list::CountList;
 use dsd_values::{DeliveryNumber, Memory};
-use indexmap::IndexMap;
 use std::alloc::Global;
 use std::marker::Model;
+use std::rc::Rc;
 
 /// The most counts of a text.
 pub const MOST_COUNTS: usize = 200;
 
-/// What was counted, delivery by delivery.
+/// What was counted, delivery by delivery. Copies share it.
 #[derive(Debug, Drop)]
 pub struct Counts {
-    counts: IndexMap<DeliveryNumber, Count>,
+    list: Rc<CountList>,
 }
 
 impl Model for Counts {
-    ghost use Rattle.std.specs.Prelude.{◌≡◌, List};
-    ghost use Rattle.indexmap.specs.IndexMap.{values};
-    ghost use Rattle.receiver_core.specs.CountTexts.{AreCounts, numbered};
+    ghost use Rattle.std.specs.Prelude.{List};
     ghost use Rattle.receiver_core.specs.declared.count.Count.{Count as Item};
 
     ghost Value = { List Item };
 
-    ghost view = { λ counts. values counts.counts };
-
-    ghost invariant = { λ counts. (counts.counts.entries ≡ numbered (values counts.counts)) × AreCounts (values counts.counts) };
+    ghost view = { λ counts. counts.list.value };
 }
 
 impl Counts {
-    pub(crate) fn new(alloc: Global) -> Counts
-        ensures { result ≡ [] }
+    /// Counts that copies share from now on.
+    pub(crate) fn share(alloc: Global, list: CountList) -> Result<Counts, Memory>
+        ensures { IfOk result (λ counts. counts ≡ list) }
     {
-        Counts {
-            counts: IndexMap::new(alloc),
-        }
+        Ok(Counts {
+            list: Rc::new(alloc, list)?,
+        })
+    }
+
+    fn list(&self) -> &CountList
+        ensures { result.now ≡ self.now }
+    {
+        self.list.as_ref()
     }
 
     pub(crate) fn len(&self) -> usize
         ensures value { result ≡ length self.now }
         ensures counts { AreCounts self.now }
     {
-        self.counts.len()
+        self.list().len()
     }
 
     /// What was counted of the delivery with this number.
     pub fn count_of(&self, number: &DeliveryNumber) -> Option<&Count>
         ensures { option_copied result ≡ count_under number.now self.now }
     {
-        self.counts.get(number)
+        self.list().count_of(number)
     }
 
-    /// Whether something was counted of the delivery with this number.
-    pub(crate) fn knows(&self, number: &DeliveryNumber) -> bool
-        ensures { result ≡ is_known number.now self.now }
+    /// The same counts, shared.
+    pub fn try_clone(&self) -> Result<Counts, Memory>
+        ensures { IfOk result (λ shared. shared ≡ self.now) }
     {
-        self.count_of(number).is_some()
-    }
-
-    /// Adds one behind the others.
-    pub(crate) fn push(&mut self, count: Count) -> Result<(), Memory>
-        requires apart { is_known count.number self.old ≡ false }
-        requires room { length self.old < MOST }
-        ensures { OnOk result (self.new ≡ self.old ++ count ∷ []) }
-    {
-        // What was counted keeps its numbers apart.
-        let _ = count.lines.as_slice();
-        self.counts.insert(count.number.copy(), count)?;
-        Ok(())
-    }
-
-    /// Equal counts.
-    pub fn try_copy(&self, alloc: Global) -> Result<Counts, Memory>
-        ensures { IfOk result (λ copy. copy ≡ self.now) }
-    {
-        let mut copy = Counts::new(alloc);
-        for count in self.counts.values().as_slice() {
-            copy.push(count.try_copy(alloc)?)?;
-        }
-        Ok(copy)
+        Ok(Counts {
+            list: self.list.clone()?,
+        })
     }
 }

@@ -34,8 +34,8 @@ impl Counts {
         let mut lines = PlainLines::new(text);
         let mut so_far = CountsSoFar::new(alloc);
         while let Some(line) = lines.next() {
-            so_far = so_far.take_line(alloc, &line)?;
+            so_far.take(alloc, &line)?;
         }
-        so_far.finish(lines.end())
+        so_far.finish(alloc, lines.end())
     }
 }

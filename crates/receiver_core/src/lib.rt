@@ -4,6 +4,7 @@
 mod changes;
 mod choosing;
 mod count;
+mod count_list;
 mod counts;
 mod from_text;
 mod laws;

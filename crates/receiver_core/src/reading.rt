@@ -1,17 +1,21 @@
 //! Reading counts line by line.
 
-ghost use Rattle.std.specs.Prelude.{◌≡◌};
+ghost use Rattle.std.specs.Prelude.{◌≡◌, List};
 ghost use Rattle.dsd_values.specs.Answers.{UnlessMemory};
-ghost use Rattle.receiver_core.specs.Reading.{IsBegun, answer_of, count_step, finished, in_part, is_between as is_whole, nothing, with_end, with_item};
+ghost use Rattle.plain_lines.specs.Refusing.{Steps};
+ghost use Rattle.receiver_core.specs.Reading.{IsBegun, answer_of, count_step, finished, going_on as with_lines, in_part, is_between as is_whole, nothing, with_end, with_item};
+ghost use Rattle.receiver_core.specs.declared.count.Count.{Count};
 ghost use Rattle.receiver_core.specs.declared.reading.Part.TheVariants as parts;
 
 use crate::count::Count;
+use crate::count_list::CountList;
 use crate::counts::{Counts, MOST_COUNTS};
 use dsd_record::{DraftFault, DraftReason};
 use dsd_values::{DeliveryNumber, Signature, ValueFault, read_delivery_number};
 use plain_lines::{CountedLines, PlainLine, misplaced, read_signature, refuse, value};
 use std::alloc::Global;
 use std::marker::Model;
+use std::mem;
 
 /// The part of a count that is not whole.
 #[derive(Debug, Drop)]
@@ -25,7 +29,7 @@ enum Part {
 /// Counts so far. Each line is taken by itself, so that counts can stand among other lines.
 #[derive(Debug, Drop)]
 pub struct CountsSoFar {
-    done: Counts,
+    done: CountList,
     part: Part,
 }
 
@@ -44,7 +48,7 @@ impl CountsSoFar {
         ensures { result ≡ nothing }
     {
         CountsSoFar {
-            done: Counts::new(alloc),
+            done: CountList::new(alloc),
             part: Part::Between,
         }
     }
@@ -58,7 +62,7 @@ impl CountsSoFar {
 
     /// Takes one more line.
     #[tactic(auto, unfolding(crate::specs::Reading::count_step))]
-    pub fn take_line(self, alloc: Global, line: &PlainLine<'_>) -> Result<CountsSoFar, DraftFault>
+    fn take_line(self, alloc: Global, line: &PlainLine<'_>) -> Result<CountsSoFar, DraftFault>
         ensures { UnlessMemory DraftFault.Memory result (count_step self line.now) }
     {
         let CountsSoFar { done, part } = self;
@@ -70,13 +74,38 @@ impl CountsSoFar {
         }
     }
 
+    /// Takes one more line. A counted line goes into the open count where that is, and nothing moves.
+    #[tactic(auto, unfolding(crate::specs::Reading::count_step))]
+    pub fn take(&mut self, alloc: Global, line: &PlainLine<'_>) -> Result<(), DraftFault>
+        ensures { Steps result self.new (count_step self.old line.now) }
+    {
+        match &mut self.part {
+            Part::Lines(count) if line.leads(b"ITEM") => take_item(count, line),
+            _ => self.take_moved(alloc, line),
+        }
+    }
+
+    /// Takes one more line, whatever it is.
+    fn take_moved(&mut self, alloc: Global, line: &PlainLine<'_>) -> Result<(), DraftFault>
+        ensures { Steps result self.new (count_step self.old line.now) }
+    {
+        let so_far = mem::replace(self, CountsSoFar::new(alloc));
+        match so_far.take_line(alloc, line) {
+            Ok(next) => {
+                *self = next;
+                Ok(())
+            }
+            Err(fault) => Err(fault),
+        }
+    }
+
     /// The counts, where the text does not end inside one; it ends at this place.
-    pub fn finish(self, end: usize) -> Result<Counts, DraftFault>
-        ensures { result ≡ finished end self }
+    pub fn finish(self, alloc: Global, end: usize) -> Result<Counts, DraftFault>
+        ensures { UnlessMemory DraftFault.Memory result (finished end self) }
     {
         let CountsSoFar { done, part } = self;
         match part {
-            Part::Between => Ok(done),
+            Part::Between => Ok(Counts::share(alloc, done)?),
             _ => Err(DraftFault::Refused {
                 place: end,
                 reason: DraftReason::Line,
@@ -86,7 +115,7 @@ impl CountsSoFar {
 }
 
 /// Takes the number of a delivery.
-fn begin(done: Counts, line: &PlainLine<'_>) -> Result<CountsSoFar, DraftFault>
+fn begin(done: CountList, line: &PlainLine<'_>) -> Result<CountsSoFar, DraftFault>
     ensures { result ≡ in_part parts.Between done line.now }
 {
     if let Some(reason) = misplaced(line, b"COUNT", 2) {
@@ -107,7 +136,7 @@ fn begin(done: Counts, line: &PlainLine<'_>) -> Result<CountsSoFar, DraftFault>
 
 /// Takes what the answers are signed with.
 fn sign(
-    done: Counts,
+    done: CountList,
     number: DeliveryNumber,
     line: &PlainLine<'_>,
 ) -> Result<CountsSoFar, DraftFault>
@@ -127,7 +156,7 @@ fn sign(
 /// Takes whether counters are accepted.
 fn answer(
     alloc: Global,
-    done: Counts,
+    done: CountList,
     number: DeliveryNumber,
     signature: Signature,
     line: &PlainLine<'_>,
@@ -166,7 +195,11 @@ fn read_answer(text: &[u8]) -> Result<bool, ValueFault>
 }
 
 /// Takes a counted line, or the end of a count.
-fn count_line(done: Counts, count: Count, line: &PlainLine<'_>) -> Result<CountsSoFar, DraftFault>
+fn count_line(
+    done: CountList,
+    count: Count,
+    line: &PlainLine<'_>,
+) -> Result<CountsSoFar, DraftFault>
     requires { IsBegun count.number done }
     ensures { UnlessMemory DraftFault.Memory result (in_part (parts.Lines count) done line.now) }
 {
@@ -177,19 +210,16 @@ fn count_line(done: Counts, count: Count, line: &PlainLine<'_>) -> Result<Counts
     }
 }
 
-/// Takes a counted line.
+/// Takes a counted line, and goes on.
 fn count_item(
-    done: Counts,
+    done: CountList,
     mut count: Count,
     line: &PlainLine<'_>,
 ) -> Result<CountsSoFar, DraftFault>
     requires { IsBegun count.number done }
     ensures { UnlessMemory DraftFault.Memory result (with_item done count line.now) }
 {
-    if let Some(reason) = misplaced(line, b"ITEM", 4) {
-        return Err(refuse(line, reason));
-    }
-    match count.lines.take_line(line) {
+    match take_item(&mut count, line) {
         Ok(()) => Ok(CountsSoFar {
             done,
             part: Part::Lines(count),
@@ -198,9 +228,23 @@ fn count_item(
     }
 }
 
+/// Takes a counted line.
+fn take_item(count: &mut Count, line: &PlainLine<'_>) -> Result<(), DraftFault>
+    ensures item { (done : List Count) → Steps result (with_lines done count.new) (with_item done count.old line.now) }
+    ensures number { count.new.number ≡ count.old.number }
+{
+    if let Some(reason) = misplaced(line, b"ITEM", 4) {
+        return Err(refuse(line, reason));
+    }
+    match count.lines.take_line(line) {
+        Ok(()) => Ok(()),
+        Err(fault) => Err(fault),
+    }
+}
+
 /// Takes the end of a count.
 fn end_count(
-    mut done: Counts,
+    mut done: CountList,
     count: Count,
     line: &PlainLine<'_>,
 ) -> Result<CountsSoFar, DraftFault>

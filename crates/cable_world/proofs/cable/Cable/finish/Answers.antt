@@ -6,8 +6,8 @@ use Rattle.cable_world.proofs.Finished.{noted_stay, steps_stay}
 use Rattle.cable_world.proofs.PlayerPolled.{if_ok_so}
 use Rattle.cable_world.proofs.cable.Cable.finish.Goals as goal
 
-pub report-requires : goal.report-requires
-report-requires c =
+pub report-requires-clause-steps : goal.report-requires-clause-steps
+report-requires-clause-steps c =
     let cable = c.args.self.now in
     steps_stay cable.handheld.log cable.receiver.log c.leave.new.self.log c.leave-2.new.self.log cable.steps.items c.leave.ensures.grows c.leave-2.ensures.grows c.requires.ready.steps
 

@@ -2,7 +2,7 @@ use Rattle.std.proofs.Common.{bytes_eq, ap, ◌∙◌}
 use Rattle.std.specs.Map.{lookup}
 use Rattle.plain_lines.proofs.Keyed.{turned_texts, under_lookup}
 use Rattle.receiver_core.specs.CountTexts.{count_under, number_of}
-use Rattle.receiver_core.proofs.counts.Counts.count_of.Goals as goal
+use Rattle.receiver_core.proofs.count_list.CountList.count_of.Goals as goal
 
 pub returns : goal.returns
 returns c =

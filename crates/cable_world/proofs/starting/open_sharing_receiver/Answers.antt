@@ -4,7 +4,7 @@ use Rattle.dsd_values.specs.declared.role.Role.TheVariants.{Receiver}
 use Rattle.receiver_core.specs.Choosing.{receiver}
 use Rattle.receiver_core.specs.declared.count.Count.{Count}
 use Rattle.cable_world.specs.SeatOpens.{PlayerOpens}
-use Rattle.cable_world.proofs.starting.open_copied_receiver.Goals as goal
+use Rattle.cable_world.proofs.starting.open_sharing_receiver.Goals as goal
 
 pub returns-in-Ok-clause-opens : goal.returns-in-Ok-clause-opens
 returns-in-Ok-clause-opens c = λ before is.

@@ -2,7 +2,7 @@ use Rattle.std.proofs.Common.{bytes_eq, ap, ◌∙◌}
 use Rattle.std.specs.Map.{lookup}
 use Rattle.plain_lines.proofs.Keyed.{turned_texts, under_lookup}
 use Rattle.handheld_core.specs.DraftTexts.{draft_under, number_of}
-use Rattle.handheld_core.proofs.drafts.Drafts.draft_of.Goals as goal
+use Rattle.handheld_core.proofs.draft_list.DraftList.draft_of.Goals as goal
 
 pub returns : goal.returns
 returns c =

@@ -3,7 +3,7 @@ use Rattle.indexmap.specs.IndexMap.{insert_entry}
 use Rattle.plain_lines.proofs.Keyed.{pushed_is, pushed_under, turned_texts}
 use Rattle.handheld_core.specs.DraftTexts.{AreDrafts, number_of, numbered}
 use Rattle.handheld_core.proofs.Known.{pushed_right}
-use Rattle.handheld_core.proofs.drafts.Drafts.push.Goals as goal
+use Rattle.handheld_core.proofs.draft_list.DraftList.push.Goals as goal
 
 pub invariant_of-self-2 : goal.invariant_of-self-2
 invariant_of-self-2 c =

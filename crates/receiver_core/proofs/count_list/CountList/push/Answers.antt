@@ -3,7 +3,7 @@ use Rattle.indexmap.specs.IndexMap.{insert_entry}
 use Rattle.plain_lines.proofs.Keyed.{pushed_is, pushed_under, turned_texts}
 use Rattle.receiver_core.specs.CountTexts.{AreCounts, number_of, numbered}
 use Rattle.receiver_core.proofs.Known.{pushed_right}
-use Rattle.receiver_core.proofs.counts.Counts.push.Goals as goal
+use Rattle.receiver_core.proofs.count_list.CountList.push.Goals as goal
 
 pub invariant_of-self-2 : goal.invariant_of-self-2
 invariant_of-self-2 c =

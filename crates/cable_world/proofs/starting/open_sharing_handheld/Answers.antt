@@ -4,7 +4,7 @@ use Rattle.dsd_values.specs.declared.role.Role.TheVariants.{Supplier}
 use Rattle.handheld_core.specs.Choosing.{supplier}
 use Rattle.handheld_core.specs.declared.draft.Draft.{Draft}
 use Rattle.cable_world.specs.SeatOpens.{PlayerOpens}
-use Rattle.cable_world.proofs.starting.open_copied_handheld.Goals as goal
+use Rattle.cable_world.proofs.starting.open_sharing_handheld.Goals as goal
 
 pub returns-in-Ok-clause-opens : goal.returns-in-Ok-clause-opens
 returns-in-Ok-clause-opens c = λ before is.
