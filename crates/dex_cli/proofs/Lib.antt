@@ -1,5 +1,7 @@
+mod LoadWords
 mod One
 pub mod Two
+mod Shaped
 mod ShowWords
 pub mod Five
 pub mod OneJob

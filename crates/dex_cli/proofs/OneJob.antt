@@ -1,17 +1,23 @@
 -- Words spell at most one job.
-use Rattle.std.proofs.Common.{◌≡◌, ℕ, List, [], length, get_or, refl, sym, ap, subst, ◌∙◌, arith}
+use Rattle.std.proofs.Common.{◌≡◌, ℕ, List, [], length, get_or, Result, Ok, refl, sym, ap, subst, ◌∙◌, arith}
+use Rattle.dsd_values.specs.Reading.{number_of}
+use Rattle.dsd_values.specs.declared.fault.ValueFault.{ValueFault}
 use Rattle.dsd_values.specs.declared.role.Role.{Role}
 use Rattle.dsd_values.specs.declared.role.Role.TheVariants.{Supplier, Receiver}
 use Rattle.dsd_journal.specs.declared.header.Header.{Header}
 use Rattle.dex_cli.specs.FormatWords.{format_words, role_word}
 use Rattle.dex_cli.specs.EndWords.{SpellsEnd, end_words}
-use Rattle.dex_cli.specs.Words.{AsksCheck, AsksEnd, AsksFormat, AsksReplay, AsksShow, check_words, replay_words, show_words, Spells}
+use Rattle.dex_cli.specs.Words.{AsksCheck, AsksEnd, AsksFormat, AsksLoad, AsksReplay, AsksShow, check_words, load_words, replay_words, show_words, Spells}
 use Rattle.dex_cli.specs.declared.end_words.EndNames.{EndNames}
 use Rattle.dex_cli.specs.declared.format_words.NewJournal.{NewJournal}
 use Rattle.dex_cli.specs.declared.words.Job.{Job}
 use Rattle.dex_cli.specs.declared.words.Job.TheVariants as jobs
 use Rattle.dex_cli.specs.declared.words.CheckKind.{CheckKind}
 use Rattle.dex_cli.specs.declared.words.CheckKind.TheVariants as checks
+
+-- the first letter of the first word
+abbrev first_letter : List (List ℕ) → ℕ
+first_letter words = get_or (get_or words 0 []) 0 0
 
 -- the first letter of the second word
 abbrev kind_letter : List (List ℕ) → ℕ
@@ -138,6 +144,41 @@ replay_only words s = (
   λ (role, names, t). replay_is_end role names (sym t.words_are ∙ s),
 )
 
+-- the words of a `load` are those of no other job
+load_is_check : (kind : CheckKind) (text : List ℕ) → check_words kind ≡ load_words text → ⊥
+load_is_check checks.Set text e = let never : 99 ≡ 108 = ap first_letter e in absurd (omega (arith, never))
+load_is_check checks.Text text e = let never : 99 ≡ 108 = ap first_letter e in absurd (omega (arith, never))
+load_is_check checks.Line text e = let never : 99 ≡ 108 = ap first_letter e in absurd (omega (arith, never))
+
+load_is_format : (new : NewJournal) (text : List ℕ) → format_words new ≡ load_words text → ⊥
+load_is_format new text e = let never : 5 ≡ 2 = ap length e in absurd (omega (arith, never))
+
+load_is_show : (journal text : List ℕ) → show_words journal ≡ load_words text → ⊥
+load_is_show journal text e = let never : 115 ≡ 108 = ap first_letter e in absurd (omega (arith, never))
+
+load_is_end : (role : Role) (names : EndNames) (text : List ℕ) → end_words role names ≡ load_words text → ⊥
+load_is_end role names text e = let never : 3 ≡ 2 = ap length e in absurd (omega (arith, never))
+
+load_is_replay : (text : List ℕ) → replay_words ≡ load_words text → ⊥
+load_is_replay text e = let never : 1 ≡ 2 = ap length e in absurd (omega (arith, never))
+
+pub load_only : (words : List (List ℕ)) → AsksLoad words → (AsksCheck words → ⊥) × (AsksFormat words → ⊥) × (AsksShow words → ⊥) × (AsksEnd words → ⊥) × (AsksReplay words → ⊥)
+load_only words (count, s) = (
+  λ (kind, t). load_is_check kind s.text (sym t ∙ s.words_are),
+  λ (new, t). load_is_format new s.text (sym t.words_are ∙ s.words_are),
+  λ (journal, t). load_is_show journal s.text (sym t.words_are ∙ s.words_are),
+  λ (role, names, t). load_is_end role names s.text (sym t.words_are ∙ s.words_are),
+  λ t. load_is_replay s.text (sym t ∙ s.words_are),
+)
+
+one_count : (text other : List ℕ) (count count' : ℕ) → load_words text ≡ load_words other → number_of 1 200 text ≡ Ok count → number_of 1 200 other ≡ Ok count' → count ≡ count'
+one_count text other count count' e p q =
+    let same : text ≡ other = cc in
+    ok_same count count' (sym p ∙ ap (number_of 1 200) same ∙ q)
+  where
+    ok_same : (n m : ℕ) → (let r : Result ℕ ValueFault = Ok n in r) ≡ Ok m → n ≡ m
+    ok_same n m e = cc
+
 -- what holds of one end whose words they are holds of the other
 pub same_end : (words : List (List ℕ)) (role role' : Role) (names names' : EndNames) (P : Role → EndNames → Type 0) → SpellsEnd role names words → SpellsEnd role' names' words → P role names → P role' names'
 same_end words role role' names names' P s t p =
@@ -184,3 +225,16 @@ one_job words (jobs.Handheld names) jobs.Replay s t = absurd (replay_is_end Supp
 one_job words jobs.Replay (jobs.Handheld names) s t = absurd (replay_is_end Supplier names (sym t.words_are ∙ s))
 one_job words (jobs.Receiver names) jobs.Replay s t = absurd (replay_is_end Receiver names (sym s.words_are ∙ t))
 one_job words jobs.Replay (jobs.Receiver names) s t = absurd (replay_is_end Receiver names (sym t.words_are ∙ s))
+one_job words (jobs.Load count) (jobs.Load count') s t = ap (λ (n : ℕ). jobs.Load n) (one_count s.text t.text count count' (sym s.words_are ∙ t.words_are) s.number t.number)
+one_job words (jobs.Load count) (jobs.Check kind) s t = absurd ((load_only words (count, s)).0 (kind, t))
+one_job words (jobs.Check kind) (jobs.Load count) s t = absurd ((load_only words (count, t)).0 (kind, s))
+one_job words (jobs.Load count) (jobs.Format new) s t = absurd ((load_only words (count, s)).1 (new, t))
+one_job words (jobs.Format new) (jobs.Load count) s t = absurd ((load_only words (count, t)).1 (new, s))
+one_job words (jobs.Load count) (jobs.Show journal) s t = absurd ((load_only words (count, s)).2 (journal, t))
+one_job words (jobs.Show journal) (jobs.Load count) s t = absurd ((load_only words (count, t)).2 (journal, s))
+one_job words (jobs.Load count) (jobs.Handheld names) s t = absurd ((load_only words (count, s)).3 (Supplier, names, t))
+one_job words (jobs.Handheld names) (jobs.Load count) s t = absurd ((load_only words (count, t)).3 (Supplier, names, s))
+one_job words (jobs.Load count) (jobs.Receiver names) s t = absurd ((load_only words (count, s)).3 (Receiver, names, t))
+one_job words (jobs.Receiver names) (jobs.Load count) s t = absurd ((load_only words (count, t)).3 (Receiver, names, s))
+one_job words (jobs.Load count) jobs.Replay s t = absurd ((load_only words (count, s)).4 t)
+one_job words jobs.Replay (jobs.Load count) s t = absurd ((load_only words (count, t)).4 s)

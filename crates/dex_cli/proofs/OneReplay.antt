@@ -17,8 +17,9 @@ use Rattle.cable_world.specs.Worlds.{WorldView, chooser_of}
 use Rattle.cable_world.specs.declared.script.Script.{Script}
 use Rattle.cable_world.specs.declared.world_report.WorldReport.{WorldReport}
 use Rattle.cable_world.proofs.ScriptAgain.{again}
+use Rattle.load_route.specs.Route.{route}
 use Rattle.dex_cli.specs.Replaying.{IsReplayed, Worlds}
-use Rattle.dex_cli.specs.Verdicts.{IsNoScript, IsTooLong, ReplaysInput, status_of, status_of_world}
+use Rattle.dex_cli.specs.Verdicts.{IsNoScript, IsTooLong, Loads, ReplaysInput, status_of, status_of_world}
 use Rattle.dex_cli.specs.declared.job.TheConstants.{INPUT_BYTES}
 use Rattle.dex_cli.specs.declared.refusal.Refusal.{Refusal}
 use Rattle.dex_cli.specs.declared.status.TheConstants.{INPUT_REFUSED}
@@ -68,3 +69,8 @@ pub input_long : (input : List ℕ) (worlds : Worlds) (a : Verdict) → INPUT_BY
 input_long input worlds (verdicts.Refused refusal) long p = refl
 input_long input worlds (verdicts.Replayed report) long p = absurd (omega (arith, long, p.0))
 input_long input worlds _ long p = absurd p
+
+pub load_one : (count count' : ℕ) (here there : Worlds) (a b : Verdict) → here.after ≡ there.after → Loads count here a → Loads count' there b → status_of a ≡ status_of b
+load_one count count' here there (verdicts.Loaded asked report) (verdicts.Loaded asked' report') same p q = ap status_of_world (one_world (route count) (route count') here there report report' same p.1 q.1)
+load_one count count' here there (verdicts.Loaded asked report) _ same p q = absurd q
+load_one count count' here there _ b same p q = absurd p

@@ -30,10 +30,10 @@ use Rattle.dex_cli.specs.declared.words.CheckKind.{CheckKind}
 use Rattle.dex_cli.specs.declared.words.CheckKind.TheVariants as checks
 use Rattle.dex_cli.specs.declared.format_words.NewJournal.{NewJournal}
 use Rattle.dex_cli.proofs.LegalSets.{shown_is_none}
-use Rattle.dex_cli.proofs.OneJob.{check_is_format, check_is_show, end_only, one_kind, replay_only, same_end, show_is_format}
+use Rattle.dex_cli.proofs.OneJob.{check_is_format, check_is_show, end_only, load_only, one_kind, replay_only, same_end, show_is_format}
 use Rattle.dex_cli.proofs.OneEnds.{end_input_long, end_input_one}
 use Rattle.dex_cli.proofs.ServedEnds.{no_other}
-use Rattle.dex_cli.proofs.OneReplay.{input_long, input_one}
+use Rattle.dex_cli.proofs.OneReplay.{input_long, input_one, load_one}
 use Rattle.dex_cli.specs.declared.status.TheConstants.{DONE, INPUT_REFUSED}
 
 -- ---- one input
@@ -268,6 +268,17 @@ module _ (words : List (List ℕ)) (left after after' : List ℕ) (faults now no
   by_jobs jobs.Replay (jobs.Show journal) s t p q = absurd ((replay_only words s).2 (journal, t))
   by_jobs jobs.Replay (jobs.Handheld names) s t p q = absurd ((replay_only words s).3 (Supplier, names, t))
   by_jobs jobs.Replay (jobs.Receiver names) s t p q = absurd ((replay_only words s).3 (Receiver, names, t))
+  by_jobs (jobs.Load count) (jobs.Load count') s t p q = load_one count count' here there a b left_same p.1 q.1
+  by_jobs (jobs.Load count) (jobs.Check kind) s t p q = absurd ((load_only words (count, s)).0 (kind, t))
+  by_jobs (jobs.Load count) (jobs.Format new) s t p q = absurd ((load_only words (count, s)).1 (new, t))
+  by_jobs (jobs.Load count) (jobs.Show journal) s t p q = absurd ((load_only words (count, s)).2 (journal, t))
+  by_jobs (jobs.Load count) (jobs.Handheld names) s t p q = absurd ((load_only words (count, s)).3 (Supplier, names, t))
+  by_jobs (jobs.Load count) (jobs.Receiver names) s t p q = absurd ((load_only words (count, s)).3 (Receiver, names, t))
+  by_jobs (jobs.Load count) jobs.Replay s t p q = absurd ((load_only words (count, s)).4 t)
+  by_jobs (jobs.Check kind) (jobs.Load count) s t p q = absurd ((load_only words (count, t)).0 (kind, s))
+  by_jobs (jobs.Format new) (jobs.Load count) s t p q = absurd ((load_only words (count, t)).1 (new, s))
+  by_jobs (jobs.Show journal) (jobs.Load count) s t p q = absurd ((load_only words (count, t)).2 (journal, s))
+  by_jobs jobs.Replay (jobs.Load count) s t p q = absurd ((load_only words (count, t)).4 s)
   by_jobs (jobs.Check kind) jobs.Replay s t p q = absurd ((replay_only words t).0 (kind, s))
   by_jobs (jobs.Format new) jobs.Replay s t p q = absurd ((replay_only words t).1 (new, s))
   by_jobs (jobs.Show journal) jobs.Replay s t p q = absurd ((replay_only words t).2 (journal, s))
@@ -293,6 +304,7 @@ serves_end : (words : List (List ℕ)) (role : Role) (names : EndNames) → Spel
 serves_end words role names asked given served worlds v (jobs.Check kind) s d = absurd ((end_only role names words asked).0 (kind, s))
 serves_end words role names asked given served worlds v (jobs.Format new) s d = absurd ((end_only role names words asked).1 (new, s))
 serves_end words role names asked given served worlds v (jobs.Show journal) s d = absurd ((end_only role names words asked).2 (journal, s))
+serves_end words role names asked given served worlds v (jobs.Load count) s d = absurd ((load_only words (count, s)).3 (role, names, asked))
 serves_end words role names asked given served worlds v jobs.Replay s d = absurd ((replay_only words s).3 (role, names, asked))
 serves_end words role names asked given served worlds v (jobs.Handheld names') s d =
     same_end words Supplier role names' names (λ (r : Role) (its : EndNames). ServesEnd (Unit {0}) r its given served v) s asked d

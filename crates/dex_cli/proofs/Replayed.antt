@@ -1,11 +1,12 @@
 -- A script that is read, or refused, and what comes of it.
-use Rattle.std.proofs.Common.{◌≡◌, inl, inr, ℕ, ◌≤◌, List, length, Result, Ok, Err, IfOk, refl, sym, subst}
+use Rattle.std.proofs.Common.{◌≡◌, inr, ℕ, ◌≤◌, List, length, Result, Ok, Err, IfOk, refl, sym, subst}
 use Rattle.dsd_record.specs.declared.draft_fault.DraftFault.TheVariants as faults
 use Rattle.dsd_record.specs.declared.draft_fault.DraftReason.{DraftReason}
 use Rattle.cable_world.specs.Reading.{script_of}
 use Rattle.cable_world.specs.ScriptTexts.{Says}
 use Rattle.cable_world.specs.declared.script.Script.{Script}
-use Rattle.dex_cli.specs.Replaying.{IsToldOfWorld, Worlds}
+use Rattle.cable_world.specs.declared.world_report.WorldReport.{WorldReport}
+use Rattle.dex_cli.specs.Replaying.{IsReplayed, Worlds}
 use Rattle.dex_cli.specs.Verdicts.{IsInput, Read, Replays, ReplaysInput}
 use Rattle.dex_cli.specs.declared.job.TheConstants.{INPUT_BYTES}
 use Rattle.dex_cli.specs.declared.refusal.Reason.TheVariants as reasons
@@ -19,11 +20,9 @@ input_replays read worlds input (Ok verdict) is replays = inr (input, is, replay
 input_replays read worlds input (Err fault) is replays = tt
 
 -- it says a script, which was played
-pub replays_so : {E : Type 0} (input : List ℕ) (worlds : Worlds) (script : Script) (result : Result Verdict E) → length input ≤ INPUT_BYTES → Says script input
-    → IfOk result (IsToldOfWorld script worlds) → IfOk result (ReplaysInput input worlds)
-replays_so input worlds script (Ok (verdicts.Replayed report)) short says told = (short, (script, says, told))
-replays_so input worlds script (Ok _) short says told = absurd told
-replays_so input worlds script (Err fault) short says told = tt
+pub replays_so : (input : List ℕ) (worlds : Worlds) (script : Script) (report : WorldReport) → length input ≤ INPUT_BYTES → Says script input → IsReplayed script worlds report
+    → ReplaysInput input worlds (verdicts.Replayed report)
+replays_so input worlds script report short says played = (short, (script, says, played))
 
 -- it says none
 pub no_script : (input : List ℕ) (worlds : Worlds) (verdict : Verdict) (place : ℕ) (reason : DraftReason) → length input ≤ INPUT_BYTES

@@ -1,4 +1,4 @@
--- What the job that plays a script leaves.
+-- What the jobs that play a script leave.
 use Rattle.std.specs.Prelude.{◌≡◌, Option, Some}
 use Rattle.cable_world.specs.WorldReports.{IsReportOf}
 use Rattle.cable_world.specs.Worlds.{HasPlayed, WorldView}
@@ -28,7 +28,8 @@ pub record HasReplayed (script : Script) (world : WorldView) (report : WorldRepo
 abbrev pub IsReplayed : Script → Worlds → WorldReport → Type 0
 IsReplayed script worlds report = (world : WorldView) × (worlds.after ≡ Some world) × HasReplayed script world report
 
--- the verdict that tells of this world
-abbrev pub IsToldOfWorld : Script → Worlds → Verdict → Type 0
-IsToldOfWorld script worlds (verdicts.Replayed report) = IsReplayed script worlds report
-IsToldOfWorld script worlds _ = ⊥
+-- the verdict tells of the world that is left
+abbrev pub IsToldOfWorld : Verdict → Type 0
+IsToldOfWorld (verdicts.Replayed report) = Unit {0}
+IsToldOfWorld (verdicts.Loaded count report) = Unit {0}
+IsToldOfWorld _ = ⊥

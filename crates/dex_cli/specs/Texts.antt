@@ -21,6 +21,7 @@ use Rattle.dsd_record.specs.declared.draft_fault.DraftReason.{DraftReason}
 use Rattle.dsd_record.specs.declared.draft_fault.DraftReason.TheVariants as draft_reasons
 use Rattle.end_report.specs.Lines.{both, line}
 use Rattle.end_report.specs.Reports.{flag_text}
+use Rattle.cable_world.specs.declared.world_report.WorldReport.{WorldReport}
 use Rattle.dex_cli.specs.declared.entry_summary.EntryForm.{EntryForm}
 use Rattle.dex_cli.specs.declared.entry_summary.EntryForm.TheVariants as entry_forms
 use Rattle.dex_cli.specs.declared.entry_summary.EntrySummary.{EntrySummary}
@@ -204,6 +205,18 @@ entries_text number (entry ∷ entries) = entry_line number entry ++ entries_tex
 unfoldable pub journal_text : JournalSummary → List ℕ
 journal_text journal = header_line journal.header ++ entries_text 1 journal.entries.items ++ line (both (codes "ENTRIES") (decimal (length journal.entries.items)))
 
+-- ---- a route
+
+-- a name and a number
+abbrev pub count_line : List ℕ → ℕ → List ℕ
+count_line name count = line (both name (decimal count))
+
+-- how many deliveries were asked for and are final, and what the handheld's finals come to
+unfoldable pub load_text : ℕ → WorldReport → List ℕ
+load_text count report =
+    count_line (codes "LOAD") count ++ count_line (codes "FINAL") report.finals ++ count_line (codes "ADJUSTED") report.adjusted
+    ++ count_line (codes "QUANTITY") report.quantity ++ count_line (codes "AMOUNT") report.amount
+
 -- ---- all that is printed of a run
 
 unfoldable pub printed : Verdict → List ℕ
@@ -221,3 +234,4 @@ printed (verdicts.NotAJournal place) = line (both (codes "NOT A JOURNAL") (decim
 printed (verdicts.Ran report) = report.text.items
 printed (verdicts.Full length) = line (both (codes "FULL") (decimal length))
 printed (verdicts.Replayed report) = report.lines.items
+printed (verdicts.Loaded count report) = load_text count report

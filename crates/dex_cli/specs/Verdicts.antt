@@ -14,6 +14,7 @@ use Rattle.dsd_record.specs.declared.draft_fault.DraftReason.{DraftReason}
 use Rattle.cable_world.specs.Reading.{script_of}
 use Rattle.cable_world.specs.ScriptTexts.{Says as SaysScript}
 use Rattle.cable_world.specs.declared.script.Script.{Script}
+use Rattle.load_route.specs.Route.{route}
 use Rattle.dex_handshake.specs.declared.session_end.SessionEnd.{SessionEnd}
 use Rattle.dex_handshake.specs.declared.session_end.SessionEnd.TheVariants as sessions
 use Rattle.end_report.specs.declared.ending.Ending.{Ending}
@@ -150,7 +151,12 @@ ReplaysInput input worlds _ = ⊥
 abbrev pub Replays : Read → Worlds → Verdict → Type 0
 Replays read worlds verdict = (IsUnread read verdict × (worlds.after ≡ worlds.before)) ⊎ ((input : List ℕ) × IsInput read.left read.after input × ReplaysInput input worlds verdict)
 
--- What a job comes to, by what was read, what its station told, and the world that it left. A check and a `replay` leave the station alone, and a `format` and a `show` the source.
+-- What a `load` of so many deliveries comes to: their route was played.
+abbrev pub Loads : ℕ → Worlds → Verdict → Type 0
+Loads count worlds (verdicts.Loaded asked report) = (asked ≡ count) × IsReplayed (route count) worlds report
+Loads count worlds _ = ⊥
+
+-- What a job comes to, by what was read, what its station told, and the world that it left. A check, a `replay` and a `load` leave the station alone, and a `format`, a `show` and a `load` the source.
 abbrev pub Does : Type 0 → Job → Read → Served → Worlds → Verdict → Type 0
 Does tells (jobs.Check kind) read served worlds verdict = IsUnread read verdict ⊎ IsChecked kind read verdict
 Does tells (jobs.Format new) read served worlds verdict = (read.after ≡ read.left) × Formats tells new served verdict
@@ -158,6 +164,7 @@ Does tells (jobs.Show journal) read served worlds verdict = (read.after ≡ read
 Does tells (jobs.Handheld names) read served worlds verdict = ServesEnd tells Supplier names read served verdict
 Does tells (jobs.Receiver names) read served worlds verdict = ServesEnd tells Receiver names read served verdict
 Does tells jobs.Replay read served worlds verdict = Replays read worlds verdict
+Does tells (jobs.Load count) read served worlds verdict = (read.after ≡ read.left) × Loads count worlds verdict
 
 -- The words are those of no job.
 pub record IsNoJob (words : List (List ℕ)) (read : Read) (verdict : Verdict) : Type 0 where
@@ -227,3 +234,4 @@ status_of (verdicts.NotAJournal place) = JOURNAL_REFUSED
 status_of (verdicts.Ran report) = status_of_end report.ending report.settled
 status_of (verdicts.Full length) = JOURNAL_FULL
 status_of (verdicts.Replayed report) = status_of_world report.all_final
+status_of (verdicts.Loaded count report) = status_of_world report.all_final

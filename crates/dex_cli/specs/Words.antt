@@ -1,8 +1,10 @@
 -- The words that spell a job.
-use Rattle.std.specs.Prelude.{ℕ, ◌≡◌, ◌⊎◌, List, [], ◌∷◌, codes}
+use Rattle.std.specs.Prelude.{ℕ, ◌≡◌, ◌⊎◌, List, [], ◌∷◌, codes, Ok}
 use Rattle.dex_cli.specs.FormatWords.{SpellsFormat}
+use Rattle.dsd_values.specs.Reading.{number_of}
 use Rattle.dsd_values.specs.declared.role.Role.{Role}
 use Rattle.dsd_values.specs.declared.role.Role.TheVariants.{Supplier, Receiver}
+use Rattle.load_route.specs.declared.deliveries.TheConstants.{MOST_DELIVERIES}
 use Rattle.dex_cli.specs.EndWords.{SpellsEnd}
 use Rattle.dex_cli.specs.Names.{IsName}
 use Rattle.dex_cli.specs.declared.end_words.EndNames.{EndNames}
@@ -21,6 +23,16 @@ check_words checks.Line = codes "check" ∷ codes "line" ∷ []
 abbrev pub replay_words : List (List ℕ)
 replay_words = codes "replay" ∷ []
 
+-- the words of a `load`
+abbrev pub load_words : List ℕ → List (List ℕ)
+load_words count = codes "load" ∷ count ∷ []
+
+-- These are the words of a `load` of so many deliveries: a number from 1 to the most of a route.
+pub record SpellsLoad (count : ℕ) (words : List (List ℕ)) : Type 0 where
+  pub text : List ℕ
+  pub number : number_of 1 MOST_DELIVERIES text ≡ Ok count
+  pub words_are : words ≡ load_words text
+
 -- the words of a `show`
 abbrev pub show_words : List ℕ → List (List ℕ)
 show_words journal = codes "show" ∷ journal ∷ []
@@ -38,6 +50,7 @@ Spells (jobs.Show journal) words = SpellsShow journal words
 Spells (jobs.Handheld names) words = SpellsEnd Supplier names words
 Spells (jobs.Receiver names) words = SpellsEnd Receiver names words
 Spells jobs.Replay words = words ≡ replay_words
+Spells (jobs.Load count) words = SpellsLoad count words
 
 -- the words are those of no job
 abbrev pub IsOfNoJob : List (List ℕ) → Type 0
@@ -62,6 +75,14 @@ AsksEnd words = (role : Role) × (names : EndNames) × SpellsEnd role names word
 -- the words are those of a `replay`
 abbrev pub AsksReplay : List (List ℕ) → Type 0
 AsksReplay words = words ≡ replay_words
+
+-- the words are those of a `load`
+abbrev pub AsksLoad : List (List ℕ) → Type 0
+AsksLoad words = (count : ℕ) × Spells (jobs.Load count) words
+
+-- the words are those of a job that leaves a world
+abbrev pub AsksWorld : List (List ℕ) → Type 0
+AsksWorld words = AsksReplay words ⊎ AsksLoad words
 
 -- the words are those of a job on a journal
 abbrev pub AsksJournal : List (List ℕ) → Type 0

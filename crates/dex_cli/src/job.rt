@@ -9,10 +9,9 @@ ghost use Rattle.dex_cli.specs.EndWords.{SpellsEnd};
 ghost use Rattle.dex_cli.specs.Ends.{IsIdle};
 ghost use Rattle.dex_cli.specs.declared.end_words.EndNames.{EndNames as NamesValue};
 ghost use Rattle.dex_cli.specs.Verdicts.{read_of, Checks, HasServed, IsUnread, IsChecked, IsComposed, MayCome, status_of};
-ghost use Rattle.dex_cli.specs.Words.{AsksEnd, AsksJournal, AsksReplay, AsksShow, AsksSource, IsOfNoJob, Spells};
+ghost use Rattle.dex_cli.specs.Words.{AsksEnd, AsksJournal, AsksShow, AsksSource, AsksWorld, IsOfNoJob, Spells};
 ghost use Rattle.dex_cli.specs.Formatting.{served_of};
-ghost use Rattle.cable_world.specs.declared.world_report.WorldReport.{WorldReport as ReportValue};
-ghost use Rattle.dex_cli.specs.Replaying.{worlds_of};
+ghost use Rattle.dex_cli.specs.Replaying.{IsToldOfWorld, worlds_of};
 ghost use Rattle.dex_cli.specs.Showing.{LooksAt};
 ghost use Rattle.dex_cli.specs.declared.verdict.Verdict.{Verdict as VerdictValue};
 ghost use Rattle.dex_cli.specs.declared.verdict.Verdict.TheVariants as verdicts;
@@ -22,6 +21,7 @@ use crate::check_set::check_set;
 use crate::check_text::check_text;
 use crate::fault::WordsFault;
 use crate::formatting::make_journal;
+use crate::loading::load;
 use crate::refusal::{Reason, Refusal};
 use crate::replaying::replay;
 use crate::report::report_of;
@@ -40,7 +40,7 @@ use std::alloc::{AllocError, Global};
 pub const INPUT_BYTES: usize = 4_194_304;
 
 /// Does what the words, those after the program's name, say: reads the source, uses the station, writes the text to
-/// the sink, and answers the status. A `replay` leaves the world that it played.
+/// the sink, and answers the status. A `replay` and a `load` leave the world that they played.
 pub fn dex<S: Source, K: Sink, T: Station>(
     alloc: Global,
     words: &[String],
@@ -71,10 +71,10 @@ pub fn dex<S: Source, K: Sink, T: Station>(
     ensures unread { (AsksSource (map string_bytes words.now) → ⊥) → source.new ≡ source.old }
     ensures idle { (AsksJournal (map string_bytes words.now) → ⊥) → station.new ≡ station.old }
 
-    // A `replay` alone leaves a world, and where memory is wanting it is that of the script, played, or the one before.
-    ensures kept { (AsksReplay (map string_bytes words.now) → ⊥) → world.new ≡ world.old }
+    // A `replay` and a `load` alone leave a world, and where memory is wanting it is that of the script or the route, played, or the one before.
+    ensures kept { (AsksWorld (map string_bytes words.now) → ⊥) → world.new ≡ world.old }
     ensures unplayed { result ≡ NO_MEMORY → (world.new ≡ world.old)
-        ⊎ ((report : ReportValue) × MayCome T.tells (map string_bytes words.now) (read_of S.left S.faults source.old source.new) (served_of T.told T.faults station.old station.new) (worlds_of world.old world.new) (verdicts.Replayed report)) }
+        ⊎ ((verdict : VerdictValue) × IsToldOfWorld verdict × MayCome T.tells (map string_bytes words.now) (read_of S.left S.faults source.old source.new) (served_of T.told T.faults station.old station.new) (worlds_of world.old world.new) verdict) }
 
     // Whatever a `show` answers, it writes nothing: the journal is as it was.
     ensures looked { T.tells → (journal : List ℕ) → Spells (jobs.Show journal) (map string_bytes words.now) → LooksAt journal (T.told station.old) (T.told station.new) }
@@ -111,7 +111,7 @@ fn verdict_of<S: Source, T: Station>(
     ensures looked { T.tells → (journal : List ℕ) → Spells (jobs.Show journal) (map string_bytes words.now) → LooksAt journal (T.told station.old) (T.told station.new) }
     ensures served { T.tells → (role : RoleValue) (names : NamesValue) → SpellsEnd role names (map string_bytes words.now)
         → IsIdle names (T.told station.old) (T.told station.new) ⊎ HasServed role names (read_of S.left S.faults source.old source.new) (T.told station.old) (T.told station.new) }
-    ensures kept { (AsksReplay (map string_bytes words.now) → ⊥) → world.new ≡ world.old }
+    ensures kept { (AsksWorld (map string_bytes words.now) → ⊥) → world.new ≡ world.old }
     ensures unplayed { OnErr result (world.new ≡ world.old) }
     ensures later { S.faults source.old ≤ S.faults source.new }
     ensures station_count { T.faults station.old ≤ T.faults station.new }
@@ -123,6 +123,7 @@ fn verdict_of<S: Source, T: Station>(
         Ok(Job::Handheld(names)) => serve_end(alloc, Role::Supplier, &names, source, station),
         Ok(Job::Receiver(names)) => serve_end(alloc, Role::Receiver, &names, source, station),
         Ok(Job::Replay) => replay(alloc, source, world),
+        Ok(Job::Load(count)) => load(alloc, count, world),
         Err(WordsFault::Refused) => Ok(Verdict::Words),
         Err(WordsFault::Memory) => Err(AllocError),
     }

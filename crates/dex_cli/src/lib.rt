@@ -13,6 +13,8 @@ mod formatting;
 mod job;
 mod journal_summary;
 pub mod laws;
+mod load_words;
+mod loading;
 mod name;
 mod reasons;
 mod refusal;

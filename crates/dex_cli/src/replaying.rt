@@ -3,7 +3,7 @@
 ghost use Rattle.std.specs.Prelude.{◌≡◌, ◌+◌, ◌≤◌, IfOk, OnErr};
 ghost use Rattle.dsd_station.specs.Causes.{TakesUpTo};
 ghost use Rattle.cable_world.specs.declared.stage.Stage.TheVariants.{New, Played};
-ghost use Rattle.dex_cli.specs.Replaying.{HasReplayed, IsToldOfWorld, worlds_of};
+ghost use Rattle.dex_cli.specs.Replaying.{HasReplayed, IsReplayed, worlds_of};
 ghost use Rattle.dex_cli.specs.Verdicts.{Replays, ReplaysInput, read_of};
 
 use crate::job::INPUT_BYTES;
@@ -51,31 +51,34 @@ fn replay_input(
         }));
     }
     match Script::read(alloc, input) {
-        Ok(script) => replay_script(alloc, script, world),
+        Ok(script) => match play_script(alloc, script, world) {
+            Ok(report) => Ok(Verdict::Replayed(report)),
+            Err(fault) => Err(fault),
+        },
         Err(DraftFault::Refused { place, reason }) => Ok(refused(place, reason)),
         Err(DraftFault::Memory) => Err(AllocError),
     }
 }
 
-/// Plays a script, and leaves the world that played it.
-fn replay_script(
+/// Plays a script, and leaves the world that played it; where memory is wanting, the caller keeps what it had.
+pub(crate) fn play_script(
     alloc: Global,
     script: Script,
     world: &mut Option<World>,
-) -> Result<Verdict, AllocError>
-    ensures told { IfOk result (IsToldOfWorld script (worlds_of world.old world.new)) }
+) -> Result<WorldReport, AllocError>
+    ensures told { IfOk result (IsReplayed script (worlds_of world.old world.new)) }
     ensures kept { OnErr result (world.new ≡ world.old) }
 {
     match open_world(alloc, script) {
-        Ok(new) => replay_on(new, world),
+        Ok(new) => play_on(new, world),
         Err(_) => Err(AllocError),
     }
 }
 
 /// Plays the script of a new world, and leaves that.
-fn replay_on(new: World, world: &mut Option<World>) -> Result<Verdict, AllocError>
+fn play_on(new: World, world: &mut Option<World>) -> Result<WorldReport, AllocError>
     requires { new.stage ≡ New }
-    ensures told { IfOk result (IsToldOfWorld new.script (worlds_of world.old world.new)) }
+    ensures told { IfOk result (IsReplayed new.script (worlds_of world.old world.new)) }
     ensures kept { OnErr result (world.new ≡ world.old) }
 {
     // (Worlds are dropped by a call, which takes them whole.)
@@ -83,7 +86,7 @@ fn replay_on(new: World, world: &mut Option<World>) -> Result<Verdict, AllocErro
     match play(&mut played) {
         Ok(report) => {
             drop(world.replace(played));
-            Ok(Verdict::Replayed(report))
+            Ok(report)
         }
         Err(fault) => {
             drop(played);

@@ -1,10 +1,10 @@
 //! The reports of verdicts: all that is printed of a run.
 
-ghost use Rattle.std.specs.Prelude.{◌≡◌, ◌++◌, codes, OnErr, IfOk, length};
+ghost use Rattle.std.specs.Prelude.{◌≡◌, ◌++◌, codes, OnErr, IfOk, OnOk, length};
 ghost use Rattle.std.specs.Cow.{cow_slice_items};
 ghost use Rattle.std.specs.Fmt.{decimal};
 ghost use Rattle.dex_line.specs.Captured.{frames_in};
-ghost use Rattle.dex_cli.specs.Texts.{ending_text, frames_text, journal_text, printed, refused_line, set_text, sets_text};
+ghost use Rattle.dex_cli.specs.Texts.{ending_text, frames_text, journal_text, load_text, printed, refused_line, set_text, sets_text};
 ghost use Rattle.end_report.specs.Lines.{line, both};
 ghost use Rattle.dex_cli.specs.Verdicts.{IsComposed, status_at, status_of as status, status_of_end, status_of_line, status_of_world};
 
@@ -54,6 +54,7 @@ pub fn report_of(alloc: Global, verdict: &Verdict) -> Result<Report, AllocError>
         Verdict::Ran(end) => of_end(alloc, end),
         Verdict::Full(length) => of_full_journal(alloc, *length),
         Verdict::Replayed(report) => of_world(alloc, report),
+        Verdict::Loaded(count, report) => of_route(alloc, *count, report),
     }
 }
 
@@ -158,6 +159,32 @@ fn of_world(alloc: Global, world: &WorldReport) -> Result<Report, AllocError>
     let mut out = Vec::new(alloc);
     put_bytes(&mut out, &world.lines)?;
     Ok(made(out, status_of_played(world.all_final)))
+}
+
+fn of_route(alloc: Global, count: u32, world: &WorldReport) -> Result<Report, AllocError>
+    ensures text { IfOk result (λ report. cow_slice_items report.text ≡ load_text count world.now) }
+    ensures status { IfOk result (λ report. report.status ≡ status_of_world world.now.all_final) }
+{
+    let mut out = Vec::new(alloc);
+    let status = status_of_played(world.all_final);
+    put_route(alloc, &mut out, count, world)?;
+    Ok(made(out, status))
+}
+
+#[tactic(auto, unfolding(crate::specs::Texts::load_text))]
+fn put_route(
+    alloc: Global,
+    out: &mut Vec<u8>,
+    count: u32,
+    world: &WorldReport,
+) -> Result<(), AllocError>
+    ensures { OnOk result (out.new.items ≡ out.old.items ++ load_text count world.now) }
+{
+    put_count(alloc, out, "LOAD", u64::from(count))?;
+    put_count(alloc, out, "FINAL", world.finals)?;
+    put_count(alloc, out, "ADJUSTED", world.adjusted)?;
+    put_count(alloc, out, "QUANTITY", world.quantity)?;
+    put_count(alloc, out, "AMOUNT", world.amount)
 }
 
 /// The status of a script that was played.

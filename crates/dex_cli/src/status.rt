@@ -3,7 +3,7 @@
 /// The job was done.
 pub const DONE: u8 = 0;
 
-/// The session of an end is complete, or a script was played, and a delivery of a journal or a draft is not final.
+/// The session of an end is complete, or a script or a route was played, and a delivery of a journal or a draft is not final.
 pub const OPEN: u8 = 1;
 
 /// The words are none of a job.

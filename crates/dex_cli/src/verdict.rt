@@ -38,4 +38,6 @@ pub enum Verdict {
     NotAJournal(u64),
     /// All events of a script were played, and this is printed of what both ends hold then.
     Replayed(WorldReport),
+    /// The route of so many deliveries was played, and this is told of what both ends hold then.
+    Loaded(u32, WorldReport),
 }

@@ -6,8 +6,10 @@ ghost use Rattle.dex_cli.specs.Words.{AsksEnd, AsksJournal, IsOfNoJob, Spells};
 use crate::end_words::{EndNames, read_end};
 use crate::fault::WordsFault;
 use crate::format_words::{NewJournal, read_format};
+use crate::load_words::read_load;
 use crate::name::Name;
 use crate::show_words::read_show;
+use job_words::are_taken;
 use std::alloc::Global;
 
 /// What is checked.
@@ -36,10 +38,26 @@ pub enum Job {
     Receiver(EndNames),
     /// `replay`: plays the script of the source, with both ends in memory.
     Replay,
+    /// `load N`: plays the route of so many deliveries, with both ends in memory.
+    Load(u32),
 }
 
-/// The job that the words, those after the program's name, spell. Only a journal's name takes memory.
+/// The job that the words, those after the program's name, spell. Only a journal's name takes memory that may be wanting.
 pub fn read_words(alloc: Global, words: &[String]) -> Result<Job, WordsFault>
+    ensures found { IfOk result (λ job. Spells job (map string_bytes words.now)) }
+    ensures refused { IsErrOf result WordsFault.Refused → IsOfNoJob (map string_bytes words.now) }
+    ensures memory { IsErrOf result WordsFault.Memory → AsksJournal (map string_bytes words.now) }
+{
+    match are_taken(alloc, words) {
+        Ok(false) => Err(WordsFault::Refused),
+        Ok(true) => read_taken(alloc, words),
+        // Without memory to ask `clap` the words are looked at alone.
+        Err(_) => read_taken(alloc, words),
+    }
+}
+
+/// The same of words that were not refused for their shape.
+fn read_taken(alloc: Global, words: &[String]) -> Result<Job, WordsFault>
     ensures found { IfOk result (λ job. Spells job (map string_bytes words.now)) }
     ensures refused { IsErrOf result WordsFault.Refused → IsOfNoJob (map string_bytes words.now) }
     ensures memory { IsErrOf result WordsFault.Memory → AsksJournal (map string_bytes words.now) }
@@ -55,6 +73,9 @@ pub fn read_words(alloc: Global, words: &[String]) -> Result<Job, WordsFault>
     }
     if is_only(words, "replay") {
         return Ok(Job::Replay);
+    }
+    if let Some(count) = read_load(words) {
+        return Ok(Job::Load(count));
     }
     read_journal_job(alloc, words)
 }

@@ -8,8 +8,8 @@ use Rattle.dex_cli.specs.Verdicts.{HasServed, read_of}
 use Rattle.dex_cli.specs.declared.end_words.EndNames.{EndNames}
 use Rattle.dex_cli.specs.declared.words.Job.TheVariants as jobs
 use Rattle.dex_cli.proofs.ByInput.{still_idle}
-use Rattle.dex_cli.proofs.OneJob.{replay_only}
-use Rattle.dex_cli.proofs.ServedEnds.{may_handheld, may_receiver, may_replay, no_other, no_show, on_err, other_check, other_format, other_replay, other_show, this_end}
+use Rattle.dex_cli.proofs.OneJob.{load_only, replay_only}
+use Rattle.dex_cli.proofs.ServedEnds.{may_handheld, may_load, may_receiver, may_replay, no_other, no_show, on_err, other_check, other_format, other_load, other_replay, other_show, this_end}
 use Rattle.dex_cli.proofs.job.verdict_of.Goals as goal
 
 pub returns-in-Err-Memory-clause-words : goal.returns-in-Err-Memory-clause-words
@@ -160,7 +160,39 @@ returns-in-Ok-Replay-clause-served g c = λ tells.
 pub returns-in-Ok-Replay-clause-kept : goal.returns-in-Ok-Replay-clause-kept
 returns-in-Ok-Replay-clause-kept g c = λ none.
     let clauses = rw c.in-Ok-Replay.field-0-is at c.in-Ok-Replay.ensures in
-    absurd (none clauses.found)
+    absurd (none (inl clauses.found))
+
+pub returns-in-Ok-Load-clause-may : goal.returns-in-Ok-Load-clause-may
+returns-in-Ok-Load-clause-may g c =
+    let clauses = rw c.in-Ok-Load.field-0-is at c.in-Ok-Load.ensures in
+    may_load g.T.Station.tells (map string_bytes c.args.words.now) (read_of g.S.Source.left g.S.Source.faults c.args.source.now c.args.source.now)
+    (served_of g.T.Station.told g.T.Station.faults c.args.station.now c.args.station.now) (worlds_of c.args.world.now c.load.new.world) c.in-Ok-Load.count c.load.result clauses.found refl c.load.ensures.told
+
+pub returns-in-Ok-Load-clause-words : goal.returns-in-Ok-Load-clause-words
+returns-in-Ok-Load-clause-words g c = λ none.
+    let clauses = rw c.in-Ok-Load.field-0-is at c.in-Ok-Load.ensures in
+    absurd (none (jobs.Load c.in-Ok-Load.count) clauses.found)
+
+pub returns-in-Ok-Load-clause-memory : goal.returns-in-Ok-Load-clause-memory
+returns-in-Ok-Load-clause-memory g c = on_err c.load.result _ (inl refl)
+
+pub returns-in-Ok-Load-clause-looked : goal.returns-in-Ok-Load-clause-looked
+returns-in-Ok-Load-clause-looked g c = λ tells journal show.
+    let clauses = rw c.in-Ok-Load.field-0-is at c.in-Ok-Load.ensures in
+    absurd ((load_only (map string_bytes c.args.words.now) (c.in-Ok-Load.count, clauses.found)).2 (journal, show))
+
+pub returns-in-Ok-Load-clause-served : goal.returns-in-Ok-Load-clause-served
+returns-in-Ok-Load-clause-served g c = λ tells.
+    let clauses = rw c.in-Ok-Load.field-0-is at c.in-Ok-Load.ensures in
+    other_load (map string_bytes c.args.words.now) _ (c.in-Ok-Load.count, clauses.found)
+
+pub returns-in-Ok-Load-clause-kept : goal.returns-in-Ok-Load-clause-kept
+returns-in-Ok-Load-clause-kept g c = λ none.
+    let clauses = rw c.in-Ok-Load.field-0-is at c.in-Ok-Load.ensures in
+    absurd (none (inr (c.in-Ok-Load.count, clauses.found)))
+
+pub returns-in-Ok-Load-clause-unplayed : goal.returns-in-Ok-Load-clause-unplayed
+returns-in-Ok-Load-clause-unplayed g c = c.load.ensures.kept
 
 pub returns-in-Ok-Replay-clause-unplayed : goal.returns-in-Ok-Replay-clause-unplayed
 returns-in-Ok-Replay-clause-unplayed g c = c.replay.ensures.kept

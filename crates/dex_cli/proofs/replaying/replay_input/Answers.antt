@@ -5,9 +5,9 @@ use Rattle.dex_cli.proofs.ByInput.{refused_as, says_none}
 use Rattle.dex_cli.proofs.Replayed.{no_script, replays_so}
 use Rattle.dex_cli.proofs.replaying.replay_input.Goals as goal
 
-pub returns-in-Ok-clause-told : goal.returns-in-Ok-clause-told
-returns-in-Ok-clause-told c =
-    replays_so c.args.input.now (worlds_of c.args.world.now c.replay_script.new.world) c.in-Ok.script c.replay_script.result (search rules) c.in-Ok.ensures.found c.replay_script.ensures.told
+pub returns-in-Ok-play_script-clause-told : goal.returns-in-Ok-play_script-clause-told
+returns-in-Ok-play_script-clause-told c =
+    replays_so c.args.input.now (worlds_of c.args.world.now c.play_script.new.world) c.in-Ok.script c.in-Ok-play_script.report (search rules) c.in-Ok.ensures.found c.in-Ok-play_script.ensures.told
 
 pub returns-in-Err-Refused-clause-told : goal.returns-in-Err-Refused-clause-told
 returns-in-Err-Refused-clause-told c =
