@@ -14,11 +14,11 @@ new_is_due true false true = refl
 new_is_due true false false = refl
 new_is_due false met accepts = refl
 
-signed_due : (course : Course) (at : Stand) → is_due course (signs course at) ≡ true
+pub signed_due : (course : Course) (at : Stand) → is_due course (signs course at) ≡ true
 signed_due course at = new_is_due (course.accepted && at.sets + 1 == course.sets) at.own.met at.own.accepts
 
 -- where an answer would come, something is due
-no_answer : (course : Course) (at : Stand) → is_due course (answers course at) ≡ false → awaits course at ≡ false
+pub no_answer : (course : Course) (at : Stand) → is_due course (answers course at) ≡ false → awaits course at ≡ false
 no_answer course at idle = elim (cases_Bool (awaits course at)) [
   | inl yes_it ↦ absurd (never_both _ (signed_due course at) (subst (λ (b : Bool). is_due course (if b then signs course at else at) ≡ false) yes_it idle))
   | inr none ↦ none
@@ -71,7 +71,7 @@ done_by course true false n own partner right r idle none idle_other = (r.still,
 done_by course false true n own partner right r idle none idle_other = absurd (stuck course n own partner right r.still.0 r.still.1 idle idle_other)
 done_by course false false n own partner right r idle none idle_other = absurd (stuck course n partner own right r.still.0 r.still.1 idle_other idle)
 
-some_answered : (course : Course) (at : Stand) → 1 ≤ at.sets → 1 ≤ (answers course at).sets
+pub some_answered : (course : Course) (at : Stand) → 1 ≤ at.sets → 1 ≤ (answers course at).sets
 some_answered course at some = elim (cases_Bool (awaits course at)) [
   | inl goes ↦ subst (λ (b : Bool). let s : Stand = (if b then signs course at else at) in 1 ≤ s.sets) (sym goes) (omega arith)
   | inr stays ↦ subst (λ (b : Bool). let s : Stand = (if b then signs course at else at) in 1 ≤ s.sets) (sym stays) some

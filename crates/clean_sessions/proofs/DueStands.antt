@@ -101,16 +101,16 @@ module _ (role : Role) (number : List ℕ) (course : Course) (own partner : Desk
       by [] none = absurd (never_both accepted e (ap is_some (none_accepted number own.entries none)))
       by (x ∷ xs) is = let some : nat_lt 0 (length (x ∷ xs)) ≡ true = grind (arith, nat_tests) in ap (λ (l : List Deed). nat_lt 0 (length l)) is ∙ some
 
-  even_at : other ≡ map mirrored mine → at ≡ stand (length mine) (nat_lt 0 (length mine)) (is_last_own role (length mine)) (told_in number own) (told_in number partner)
+  pub even_at : other ≡ map mirrored mine → at ≡ stand (length mine) (nat_lt 0 (length mine)) (is_last_own role (length mine)) (told_in number own) (told_in number partner)
   even_at even =
       ap (λ (m : ℕ). stand_at role (length mine) m (told_in number own) (told_in number partner)) (even_length mine other even) ∙ even_stand role (told_in number own) (told_in number partner) (length mine)
 
-  ahead_at : IsBehind other mine → at ≡ stand (length other + 1) false true (told_in number own) (told_in number partner)
+  pub ahead_at : IsBehind other mine → at ≡ stand (length other + 1) false true (told_in number own) (told_in number partner)
   ahead_at ahead =
       ap (λ (n : ℕ). stand_at role n (length other) (told_in number own) (told_in number partner)) (behind_length other mine ahead) ∙ ahead_stand role (told_in number own) (told_in number partner) (length other)
       ∙ ap (λ (l : Bool). stand (length other + 1) false l (told_in number own) (told_in number partner)) (ahead_side role number own.entries partner.entries b ahead)
 
-  late_at : IsBehind mine other → at ≡ stand (length mine + 1) false false (told_in number own) (told_in number partner)
+  pub late_at : IsBehind mine other → at ≡ stand (length mine + 1) false false (told_in number own) (told_in number partner)
   late_at late =
       ap (λ (m : ℕ). stand_at role (length mine) m (told_in number own) (told_in number partner)) (behind_length mine other late) ∙ late_stand role (told_in number own) (told_in number partner) (length mine)
       ∙ ap (λ (l : Bool). stand (length mine + 1) false l (told_in number own) (told_in number partner)) (late_side role number own.entries partner.entries b late)

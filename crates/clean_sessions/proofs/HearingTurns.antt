@@ -1,5 +1,5 @@
 -- What is heard of a delivery: its partner's last signed set is taken, or was taken and is known.
-use Rattle.std.proofs.Common.{◌≡◌, ℕ, Bool, true, false, ◌||◌, cond, List, [], ◌∷◌, ◌++◌, Option, Some, None, refl, ap, subst, inl, inr}
+use Rattle.std.proofs.Common.{◌≡◌, ◌≤◌, ℕ, Bool, true, false, ◌||◌, cond, length, List, [], ◌∷◌, ◌++◌, Option, Some, None, refl, ap, subst, inl, inr, arith}
 use Rattle.std.specs.Prelude.{Contains}
 use Rattle.std.specs.Str.{bytes_eq}
 use Rattle.std.specs.List.{filter, list_any}
@@ -22,7 +22,7 @@ last_in [] deed e = absurd (cc)
 last_in (one ∷ []) deed e = let same : one ≡ deed = cc in inl same
 last_in (one ∷ next ∷ deeds) deed e = inr (last_in (next ∷ deeds) deed e)
 
-read_in : (deeds : List Deed) (deed : Deed) → AllRead deeds → In deed deeds → set_in deed.text ≡ Some deed.set
+pub read_in : (deeds : List Deed) (deed : Deed) → AllRead deeds → In deed deeds → set_in deed.text ≡ Some deed.set
 read_in [] deed read h = absurd h
 read_in (one ∷ deeds) deed read (inl same) = subst (λ (d : Deed). set_in d.text ≡ Some d.set) same read.0
 read_in (one ∷ deeds) deed read (inr h) = read_in deeds deed read.1 h
@@ -58,6 +58,10 @@ last_by number entries text (Some deed) e is =
 pub last_deed : (number : List ℕ) (entries : List Entry) (text : List ℕ) → last_signed entries number ≡ Some text → IsLastDeed number entries text
 last_deed number entries text e = last_by number entries text (last_of (signed_of number (deeds_of entries))) refl e
 
+pub some_in : (deeds : List Deed) (deed : Deed) → In deed deeds → 1 ≤ length deeds
+some_in [] deed h = absurd h
+some_in (one ∷ deeds) deed h = omega arith
+
 -- it is among the signed texts
 pub last_text : (number : List ℕ) (entries : List Entry) (text : List ℕ) → last_signed entries number ≡ Some text → Contains (signed_texts entries) text
 last_text number entries text e =
@@ -65,7 +69,7 @@ last_text number entries text e =
     subst (Contains (signed_texts entries)) l.text_is (signed_text entries l.deed l.there l.kind)
 
 -- a signed deed at the end is the last signed one
-last_behind : (deeds : List Deed) (deed : Deed) → last_of (deeds ++ deed ∷ []) ≡ Some deed
+pub last_behind : (deeds : List Deed) (deed : Deed) → last_of (deeds ++ deed ∷ []) ≡ Some deed
 last_behind [] deed = refl
 last_behind (one ∷ []) deed = refl
 last_behind (one ∷ next ∷ deeds) deed = last_behind (next ∷ deeds) deed

@@ -61,6 +61,8 @@ module _ {A : Type 0} (Step : A → Desk → Desk → Type 0) (key : A → List 
     pub good_behind : Good behind
     pub last : IsUntouched number behind new
     pub end : Good new
+    pub more : List A
+    pub rest : InTurn Step more behind new
 
   pub once : (items : List A) (old new : Desk) → Keeps items → Good old → is_there items ≡ true → IsThereOnce items → InTurn Step items old new → Once items old new
   once [] old new keeps good there apart e = absurd (cc)
@@ -79,6 +81,8 @@ module _ {A : Type 0} (Step : A → Desk → Desk → Type 0) (key : A → List 
           good_behind = keeps.0 old next good step;
           last = rest.left;
           end = rest.good;
+          more = items;
+          rest = more;
         }
     | inr other ↦
         let left = keeps.1 old next good other step in
@@ -96,5 +100,7 @@ module _ {A : Type 0} (Step : A → Desk → Desk → Type 0) (key : A → List 
           good_behind = o.good_behind;
           last = o.last;
           end = o.end;
+          more = o.more;
+          rest = o.rest;
         }
   ]

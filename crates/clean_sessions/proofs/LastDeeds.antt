@@ -108,7 +108,7 @@ front_proposes role number deeds front last e = allowed_behind role number front
 
 -- ---- the acceptance
 
-none_accepting : (front : List Deed) → AllPropose front → filter (λ (d : Deed). not (proposes d.set)) front ≡ []
+pub none_accepting : (front : List Deed) → AllPropose front → filter (λ (d : Deed). not (proposes d.set)) front ≡ []
 none_accepting [] all = refl
 none_accepting (deed ∷ deeds) all =
     ap (λ (t : Bool). cond (not t) (deed ∷ filter (λ (d : Deed). not (proposes d.set)) deeds) (filter (λ (d : Deed). not (proposes d.set)) deeds)) all.0
@@ -153,7 +153,7 @@ pub last_kind : (kind : EntryKind) (n : ℕ) (front : List Deed) (last : Deed) �
 last_kind kind n [] last turns = turns.0
 last_kind kind n (deed ∷ front) last turns = last_kind (other_kind kind) (n + 1) front last turns.2
 
-last_place : (kind : EntryKind) (n : ℕ) (front : List Deed) (last : Deed) → AreInTurn kind n (front ++ last ∷ []) → place_of last ≡ n + length front
+pub last_place : (kind : EntryKind) (n : ℕ) (front : List Deed) (last : Deed) → AreInTurn kind n (front ++ last ∷ []) → place_of last ≡ n + length front
 last_place kind n [] last turns = let at = turns.1 in omega (arith, at)
 last_place kind n (deed ∷ front) last turns = let at = last_place (other_kind kind) (n + 1) front last turns.2 in omega (arith, at)
 

@@ -97,7 +97,7 @@ module _ (sets : List (List ℕ)) (sender receiver : List ℕ) (control : ℕ) (
       let short : length text ≤ 270_000 = sent.short in
       omega (arith, sets_few sets sent.each, ap length sent.written, short, length-append (head ++ concat sets) tail, length-append head (concat sets))
 
-  head_some : text ≢ []
+  pub head_some : text ≢ []
   head_some none =
       let empty : length text ≡ 0 = ap length none in
       omega (arith, empty, ap length sent.written, length-append (head ++ concat sets) tail, length-append head (concat sets), header_length sender receiver control sent.from.ten sent.to.ten)

@@ -1,5 +1,5 @@
 -- What answering and proposing make of one delivery is what its course has for the end to sign.
-use Rattle.std.proofs.Common.{◌≡◌, ◌≤◌, ◌+◌, ℕ, Bool, true, false, ◌&&◌, ◌||◌, ◌==◌, if◌then◌else◌, nat_lt, length, List, refl, sym, ap, ◌∙◌, inl, inr, arith}
+use Rattle.std.proofs.Common.{◌≡◌, ◌≤◌, ◌+◌, ℕ, Bool, true, false, not, ◌&&◌, ◌||◌, ◌==◌, if◌then◌else◌, nat_lt, length, List, refl, sym, ap, ◌∙◌, inl, inr, arith}
 use Rattle.std.proofs.lemmas.Bool.{cases_Bool}
 use Rattle.std.proofs.lemmas.Bool.Decides.{nat_tests}
 use Rattle.dsd_values.specs.declared.role.Role.{Role}
@@ -11,6 +11,7 @@ use Rattle.own_turn.specs.OwnTurn.{Desk, with_signature}
 use Rattle.clean_sessions.specs.Courses.{Course, Stand, answers, awaits, proposes, signs}
 use Rattle.clean_sessions.specs.DeliveryStands.{IsFront, SignsSets, is_open, may_propose, sets_in, stand_at, stand_of, told_in}
 use Rattle.clean_sessions.specs.Untouched.{IsUntouched}
+use Rattle.clean_sessions.proofs.BoolTests.{never_both}
 use Rattle.clean_sessions.proofs.Meetings.{even_stand, is_last_own}
 use Rattle.clean_sessions.proofs.ReadyPlaces.{no_draft, stand}
 use Rattle.clean_sessions.proofs.SignedStands.{answered_open, awaits_sign, first_sign, one_more, signs_stand}
@@ -56,7 +57,7 @@ module _ (role : Role) (chooser : Chooser) (signing : SignsSets role chooser) (n
   -- a first set is no acceptance
   proposed : (old new : Desk) → (s : SignsOne (IsNewIn role chooser signing partner.entries number) (Good role chooser signing partner.entries number) number old new) → IsFront course number new.entries → at new ≡ prepared old
   proposed old new s fits =
-      let f = first_sign role number course partner s.before.entries s.text s.acceptance s.own s.when s.good s.behind in
+      let f = first_sign role number course partner s.before.entries s.text s.acceptance s.own s.when.0 s.good s.behind in
       let signed = signs_stand role number course partner (IsNewIn role chooser signing partner.entries number) old new s fits f.may in
       let behind : Desk = with_signature s.before number s.acceptance s.text in
       let front = front_untouched course number new.entries behind.entries (sym s.last.deeds) fits in
@@ -116,7 +117,7 @@ module _ (role : Role) (chooser : Chooser) (signing : SignsSets role chooser) (n
       let count = one_more number s.text s.acceptance s.own s.before.entries in
       let there = ap length s.last.deeds in
       let same = ap length t.first.deeds in
-      let none = ap length t.when in
+      let none = ap length t.when.0 in
       omega (arith, count, there, same, none)
 
   pub prepared_so : (old mid new : Desk) → SignsOrNot (Awaits role chooser signing partner.entries number) (Good role chooser signing partner.entries number) number old mid
@@ -126,3 +127,40 @@ module _ (role : Role) (chooser : Chooser) (signing : SignsSets role chooser) (n
   prepared_so old mid new (inr s) (inl p) fits opened = answered old new (extended (Awaits role chooser signing partner.entries number) old mid new s p) fits
   prepared_so old mid new (inl a) (inr t) fits opened = proposed old new (begun (IsNewIn role chooser signing partner.entries number) old mid new a t) fits
   prepared_so old mid new (inr s) (inr t) fits opened = absurd (never_twice old mid new s t)
+
+  -- ---- where the course ends with what is there then
+
+  closed : (heard last_own drafts : Bool) (n m : ℕ) → n ≡ m → (heard && not last_own && nat_lt n m || (drafts && n == 0 && nat_lt 0 m)) ≡ false
+  closed heard last_own drafts n m e =
+      let full : nat_lt n m ≡ false = grind (arith, nat_tests) in
+      ap (λ (b : Bool). heard && not last_own && b || (drafts && n == 0 && nat_lt 0 m)) full ∙ by heard last_own drafts
+    where
+      none : (b : Bool) → (n == 0) ≡ b → (b && nat_lt 0 m) ≡ false
+      none false z = refl
+      none true z = grind (arith, nat_tests)
+
+      by : (heard last_own drafts : Bool) → (heard && not last_own && false || (drafts && n == 0 && nat_lt 0 m)) ≡ false
+      by true true true = none (n == 0) refl
+      by true false true = none (n == 0) refl
+      by false last_own true = none (n == 0) refl
+      by true true false = refl
+      by true false false = refl
+      by false last_own false = refl
+
+  -- a set is then signed where the course had one to sign
+  pub grown_so : (old mid new : Desk) → SignsOrNot (Awaits role chooser signing partner.entries number) (Good role chooser signing partner.entries number) number old mid
+      → SignsOrNot (IsNewIn role chooser signing partner.entries number) (Good role chooser signing partner.entries number) number mid new
+      → IsFront course number new.entries → (at new).sets ≡ course.sets → is_open course role (at old) ≡ true → (at new).sets ≡ (at old).sets + 1
+  unfolding begun extended
+  grown_so old mid new (inl a) (inl p) fits whole open_it =
+      let still : (at old).sets ≡ course.sets = sym (ap (λ (s : Stand). s.sets) (stand_untouched number role old new partner (then_untouched number old mid new a p))) ∙ whole in
+      absurd (never_both _ open_it (closed (at old).heard (at old).last_own (may_propose role) (at old).sets course.sets still))
+  grown_so old mid new (inr s) (inl p) fits whole open_it =
+      let more = extended (Awaits role chooser signing partner.entries number) old mid new s p in
+      let may = awaits_sign role number course partner s.before.entries s.good s.when in
+      ap (λ (x : Stand). x.sets) (signs_stand role number course partner (Awaits role chooser signing partner.entries number) old new more fits may.0)
+  grown_so old mid new (inl a) (inr t) fits whole open_it =
+      let more = begun (IsNewIn role chooser signing partner.entries number) old mid new a t in
+      let f = first_sign role number course partner t.before.entries t.text t.acceptance t.own t.when.0 t.good t.behind in
+      ap (λ (x : Stand). x.sets) (signs_stand role number course partner (IsNewIn role chooser signing partner.entries number) old new more fits f.may)
+  grown_so old mid new (inr s) (inr t) fits whole open_it = absurd (never_twice old mid new s t)

@@ -82,7 +82,7 @@ begun course n true false some most = answered course n nothing_told nothing_tol
 begun course n false true some most = record { some = some; most = most; still = (refl, λ complete. inr refl) }
 begun course n false false some most = record { some = some; most = most; still = (refl, λ complete. inr refl) }
 
-first_signed : (course : Course) (n : ℕ) (heard last_own : Bool) (own partner : Told) → n ≡ 0 → heard ≡ false → 1 ≤ course.sets
+pub first_signed : (course : Course) (n : ℕ) (heard last_own : Bool) (own partner : Told) → n ≡ 0 → heard ≡ false → 1 ≤ course.sets
     → prepares course true false (stand n heard last_own own partner) ≡ signs course (stand n heard last_own own partner)
 first_signed course n heard last_own own partner none deaf some =
     let room : nat_lt 0 course.sets ≡ true = grind (arith, nat_tests) in

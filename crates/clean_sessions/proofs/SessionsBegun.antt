@@ -144,6 +144,8 @@ module _ (id other : List ℕ) (is : IsId id) (others : IsId other) (supplier re
             supplier = omega (arith, supplier_now, near_few, supplier_few, few);
             receiver = omega (arith, receiver_now, far_few, receiver_few);
             desks = ap (λ (h : Hall). h.near.standing.desk) t.is;
+            choosers = (ap (λ (h : Hall). h.near.chooser) t.is, ap (λ (h : Hall). h.far.chooser) t.is);
+            headers = (ap (λ (h : Hall). h.near.standing.header) t.is, ap (λ (h : Hall). h.far.standing.header) t.is);
           }
 
   -- the whole session

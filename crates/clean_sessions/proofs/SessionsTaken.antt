@@ -53,11 +53,11 @@ due_text false number text set e = absurd (cc)
 due_is_set : (entries : List Entry) (all : List Asked) (number : List ℕ) (set : DueSet) → due_of entries all number ≡ Some set → IsSomeSet set.text
 due_is_set entries all number set e = last_set entries number set.text (due_text (is_due entries (asked_of number all)) number (last_signed entries number) set e)
 
-abbrev AreSets : List DueSet → Type 0
+abbrev pub AreSets : List DueSet → Type 0
 AreSets [] = ⊤
 AreSets (set ∷ more) = IsSomeSet set.text × AreSets more
 
-dues_are : (entries : List Entry) (all : List Asked) (numbers : List (List ℕ)) → AreSets (filter_map (due_of entries all) numbers)
+pub dues_are : (entries : List Entry) (all : List Asked) (numbers : List (List ℕ)) → AreSets (filter_map (due_of entries all) numbers)
 dues_are entries all [] = tt
 dues_are entries all (number ∷ numbers) = by_due (due_of entries all number) refl (dues_are entries all numbers)
   where

@@ -35,7 +35,7 @@ module _ (number text : List ℕ) (acceptance : Bool) (own : IsOwnSet number acc
   abbrev deed : Deed
   deed = record { kind = Signed; text = text; set = own.set }
 
-  deeds_then : of_delivery number (deeds_of (entries ++ signed text ∷ [])) ≡ of_delivery number (deeds_of entries) ++ deed ∷ []
+  pub deeds_then : of_delivery number (deeds_of (entries ++ signed text ∷ [])) ≡ of_delivery number (deeds_of entries) ++ deed ∷ []
   deeds_then = ap (of_delivery number) (deeds_more entries (signed text) own.set own.read) ∙ of_own number (deeds_of entries) deed own.its
 
   pub one_more : sets_in number (entries ++ signed text ∷ []) ≡ sets_in number entries + 1

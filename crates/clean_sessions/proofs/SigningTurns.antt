@@ -25,7 +25,7 @@ use Rattle.own_turn.specs.OwnTurn.{Answers, Desk, InTurn, Proposes, awaiting, is
 use Rattle.clean_sessions.specs.DeliveryStands.{AreBacked, IsOwnSet, SignsSets}
 use Rattle.clean_sessions.specs.Untouched.{IsUntouched}
 use Rattle.clean_sessions.proofs.AskedApart.{other_asked, own_asked}
-use Rattle.clean_sessions.proofs.KeyedSteps.{IsThereOnce, Keeps, is_there, once, passed}
+use Rattle.clean_sessions.proofs.KeyedSteps.{Once, IsThereOnce, Keeps, is_there, once, passed}
 use Rattle.clean_sessions.proofs.NumbersApart.{Apart, apart_filter, has, numbers_apart}
 use Rattle.clean_sessions.proofs.TakingApart.{asked_number, entry_other, nothing_touched, then_untouched}
 
@@ -156,6 +156,12 @@ module _ (role : Role) (chooser : Chooser) (signs : SignsSets role chooser) (par
         last = subst (λ (d : Desk). IsUntouched number d new) made last;
       })
 
+  -- where the delivery awaits this end
+  pub answered_once : (old new : Desk) → Good old → InTurn (Answers role chooser) (awaiting old.entries) old new → has number (awaiting old.entries) ≡ true → Once (Answers role chooser) key Good number (awaiting old.entries) old new
+  answered_once old new good steps there =
+      once (Answers role chooser) key Good number (awaiting old.entries) old new (answers_keep (awaiting old.entries)) good (has_there number (awaiting old.entries) ∙ there)
+      (there_once (awaiting old.entries) (apart_filter (awaits_us old.entries) (numbers_of old.entries) (numbers_apart old.entries))) steps
+
   pub answered_all : (old new : Desk) → Good old → InTurn (Answers role chooser) (awaiting old.entries) old new → AfterAnswers old new
   answered_all old new good steps = elim (cases_Bool (is_there (Answers role chooser) key Good number (awaiting old.entries))) [
     | inl there ↦
@@ -178,11 +184,12 @@ module _ (role : Role) (chooser : Chooser) (signs : SignsSets role chooser) (par
       subst (IsUntouched number old) (sym e) (other_signed number draft.number text false old (signs.drafts old.entries draft text good.legal may) differs)
   draft_other draft old new good differs (inr (none, e)) = subst (IsUntouched number old) (sym e) (nothing_touched number old)
 
+  -- it is new, and a draft
   abbrev pub IsNewIn : List Entry → Type 0
-  IsNewIn entries = IsNew number (deeds_of entries)
+  IsNewIn entries = IsNew number (deeds_of entries) × ((draft : BaseRecord) × Contains chooser.drafts draft × (draft.number ≡ number))
 
   -- a delivery that is known is not proposed
-  known_left : (drafts : List BaseRecord) (old new : Desk) → Good old → (IsNewIn old.entries → ⊥) → InTurn (Proposes role chooser) drafts old new → Good new × IsUntouched number old new
+  known_left : (drafts : List BaseRecord) (old new : Desk) → Good old → (IsNew number (deeds_of old.entries) → ⊥) → InTurn (Proposes role chooser) drafts old new → Good new × IsUntouched number old new
   known_left [] old new good known e = (subst Good (sym e) good, subst (IsUntouched number old) (sym e) (nothing_touched number old))
   known_left (draft ∷ drafts) old new good known (next, step, more) =
       let left = by (bytes_eq draft.number number) refl step in
@@ -198,7 +205,7 @@ module _ (role : Role) (chooser : Chooser) (signs : SignsSets role chooser) (par
     pub good : Good new
     pub made : SignsOrNot IsNewIn Good number old new
 
-  some_there : (entries : List Entry) (text : List ℕ) → IsOwnSet number false text → IsNewIn (entries ++ signed text ∷ []) → ⊥
+  some_there : (entries : List Entry) (text : List ℕ) → IsOwnSet number false text → IsNew number (deeds_of (entries ++ signed text ∷ [])) → ⊥
   some_there entries text own none =
       let one : Deed = record { kind = (signed text).kind; text = text; set = own.set } in
       never (of_delivery number (deeds_of entries)) one (sym (ap (of_delivery number) (deeds_more entries (signed text) own.set own.read) ∙ of_own number (deeds_of entries) one own.its) ∙ none)
@@ -231,7 +238,7 @@ module _ (role : Role) (chooser : Chooser) (signs : SignsSets role chooser) (par
       first_one : (text : List ℕ) (own : IsOwnSet number false text) → IsNewIn old.entries → next ≡ with_signature old number false text → AfterDrafts old new
       first_one text own new_there made =
           let good_next = draft_good draft old next good step in
-          let rest = known_left drafts next new good_next (λ none. some_there old.entries text own (subst (λ (d : Desk). IsNewIn d.entries) made none)) more in
+          let rest = known_left drafts next new good_next (λ none. some_there old.entries text own (subst (λ (d : Desk). IsNew number (deeds_of d.entries)) made none)) more in
           record {
             good = rest.0;
             made = inr (record {
@@ -253,4 +260,4 @@ module _ (role : Role) (chooser : Chooser) (signs : SignsSets role chooser) (par
       by later true same (inl (text, may, e)) =
           let its = (bytes_eq-Decides draft.number number).0 same in
           first_one text (subst (λ (n : List ℕ). IsOwnSet n false text) its (signs.drafts old.entries draft text good.legal may))
-          (subst (λ (n : List ℕ). IsNew n (deeds_of old.entries)) its may.chosen.new) (e ∙ ap (λ (n : List ℕ). with_signature old n false text) its)
+          (subst (λ (n : List ℕ). IsNew n (deeds_of old.entries)) its may.chosen.new, (draft, may.chosen.among, its)) (e ∙ ap (λ (n : List ℕ). with_signature old n false text) its)

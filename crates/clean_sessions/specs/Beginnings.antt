@@ -13,7 +13,8 @@ use Rattle.dsd_end.specs.Standings.{first_standing}
 use Rattle.dsd_end.specs.declared.fault.TheConstants.{NOISE_BYTES}
 use Rattle.clean_sessions.specs.CleanHeaders.{receiver_ready, supplier_ready}
 use Rattle.clean_sessions.specs.Halls.{AreExchanged, BeginsTurn, CleanStep, Hall}
-use Rattle.clean_sessions.specs.Sessions.{AreTaken, Spoken, post_behind, turn_of}
+use Rattle.clean_sessions.specs.SeatTurns.{Seat}
+use Rattle.clean_sessions.specs.Sessions.{AreTaken, GoOn, Spoken, post_behind, turn_of}
 use Rattle.clean_sessions.specs.Turns.{all_alone}
 
 -- the headers of two journals whose ids match
@@ -25,6 +26,10 @@ receiver_header id other = record { role = Receiver; own = other; peer = id }
 
 abbrev pub fresh_desk : List Entry → Desk
 fresh_desk entries = record { entries = entries; asked = []; refused = 0; turns = 0 }
+
+-- an end at its desk as its session begins
+abbrev pub seat_before : Header → Chooser → List Entry → Seat
+seat_before header chooser entries = record { header = header; chooser = chooser; desk = fresh_desk entries }
 
 -- both ends were opened over these entries, and the handheld was polled once: its Enq is on its way
 abbrev pub opened : List ℕ → List ℕ → Chooser → Chooser → List Entry → List Entry → Hall
@@ -49,6 +54,8 @@ pub record BeginsTexts (id other : List ℕ) (old new : Hall) : Type 0 where
   pub supplier : new.far.polls ≤ 6
   pub receiver : new.near.polls ≤ 5
   pub desks : new.near.standing.desk ≡ old.near.standing.desk
+  pub choosers : (new.near.chooser ≡ old.near.chooser) × (new.far.chooser ≡ old.far.chooser)
+  pub headers : (new.near.standing.header ≡ old.near.standing.header) × (new.far.standing.header ≡ old.far.standing.header)
 
 -- ---- a session from its opening to its end
 
@@ -61,6 +68,14 @@ pub record IsCleanSession (id other : List ℕ) (supplier receiver : Chooser) (s
   pub turned : Turned (supplier_header id other) supplier (fresh_desk supplier_entries) [] desk first.text
   pub sets : first.sets ≡ texts_of (gathered (supplier_header id other) turned.proposed)
   pub turns : AreTaken more (supplier_ready id other) (receiver_ready id other) first.text middle new
+
+-- The same up to a turn behind which the session goes on.
+pub record GoesOnClean (id other : List ℕ) (supplier receiver : Chooser) (supplier_entries receiver_entries : List Entry) (first : Spoken) (more : List Spoken) (new : Hall) : Type 0 where
+  pub middle : Hall
+  pub headers : AreHeadersTaken (opened id other supplier receiver supplier_entries receiver_entries) middle
+  pub desk : Desk
+  pub turned : Turned (supplier_header id other) supplier (fresh_desk supplier_entries) [] desk first.text
+  pub turns : GoOn more (supplier_ready id other) (receiver_ready id other) first.text middle new
 
 -- Both ends are complete, and each was polled at most 60 times, and 24 times for each block of the sets that were spoken, each set cut alone and
 -- counted as often as it was spoken. With few blocks none has heard so many bytes that it would give up.

@@ -1,21 +1,29 @@
 -- The answer that an end chooses on a version, as a function, and what of it a session does not fix.
-use Rattle.std.specs.Prelude.{◌≡◌, ℕ, List, [], ◌∷◌, Option, Some, None, Result, Ok, Err}
+use Rattle.std.specs.Prelude.{◌≡◌, ◌≤◌, ℕ, true, All, List, [], ◌∷◌, Option, Some, None, Result, Ok, Err}
 use Rattle.dsd_pricing.specs.declared.amounts.Totals.{Totals}
-use Rattle.dsd_values.specs.SignatureRecord.{SignatureRecord}
+use Rattle.dsd_values.specs.SignatureRecord.{IsSignature, SignatureRecord}
+use Rattle.dsd_values.specs.declared.level.TheConstants.Level.{MAX as HIGHEST}
 use Rattle.dsd_values.specs.declared.line.Line.{Line}
 use Rattle.dsd_values.specs.declared.role.Role.{Role}
+use Rattle.dsd_values.specs.declared.role.Role.TheVariants.{Supplier}
+use Rattle.base_record_894.specs.BaseRecord.{BaseRecord}
+use Rattle.base_record_894.specs.RecordText.{IsBase}
+use Rattle.base_record_894.specs.WrittenText.{seal_of as base_seal}
 use Rattle.adjustment_895.specs.AnswerRecord.{AnswerRecord}
-use Rattle.adjustment_895.specs.WrittenText.{written_of}
+use Rattle.adjustment_895.specs.WrittenText.{seal_of, written_of}
 use Rattle.dsd_record.specs.ChangedPrice.{price_with}
-use Rattle.dsd_record.specs.Choices.{Chooser}
+use Rattle.dsd_record.specs.Choices.{Chooser, ChoosesSoundly}
+use Rattle.dsd_record.specs.ReadSets.{set_in}
 use Rattle.dsd_record.specs.Version.{Version}
+use Rattle.dsd_record.specs.declared.set_view.SetView.TheVariants as sets
 use Rattle.dsd_record.specs.declared.choice.Choice.{Choice}
 use Rattle.dsd_record.specs.declared.choice.Choice.TheVariants.{Accept, Adjust, Wait}
 use Rattle.dsd_record.specs.declared.price_after.ChangeFault.{ChangeFault}
 use Rattle.dsd_journal.specs.declared.entry.Entry.{Entry}
 use Rattle.delivery_book.specs.Answering.{answer_to}
-use Rattle.delivery_book.specs.Lookups.{own_amount, seen_of}
+use Rattle.delivery_book.specs.Lookups.{awaits_us, own_amount, seen_of}
 use Rattle.delivery_book.specs.Signing.{next_control}
+use Rattle.own_turn.specs.OwnTurn.{MayAnswer, MayPropose}
 
 -- where the changed lines have a price
 abbrev pub priced_answer : Role → Version → SignatureRecord → List Line → Result Totals ChangeFault → Option AnswerRecord
@@ -58,3 +66,38 @@ but_for_named answer = record answer { check = 0 }
 -- a chooser that does not look at integrity values
 abbrev pub IgnoresCheck : Chooser → Type 0
 IgnoresCheck chooser = (version : Version) (amount : Option ℕ) → chooser.choice version amount ≡ chooser.choice (but_for_check version) amount
+
+-- an answer that names another integrity value
+abbrev pub naming : AnswerRecord → ℕ → AnswerRecord
+naming answer check = record answer { check = check }
+
+-- the highest control number
+abbrev pub nine_digits : ℕ
+nine_digits = 999_999_999
+
+-- what deciders choose: drafts that some text spells, lines that may be stated, and signatures that may be written
+pub record ChoosesRightly (chooser : Chooser) : Type 0 where
+  pub drafts : All IsBase chooser.drafts
+  pub choices : ChoosesSoundly chooser
+  pub signatures : (number : List ℕ) (signature : SignatureRecord) → chooser.signature number ≡ Some signature → IsSignature signature
+
+-- The answer that is chosen on a version of the delivery behind these entries can be written with nine digits, at a level that there is.
+pub record IsChosenOn (role : Role) (chooser : Chooser) (entries : List Entry) (number : List ℕ) (version : Version) (answer : AnswerRecord) : Type 0 where
+  pub awaits : awaits_us entries number ≡ true
+  pub seen : seen_of entries number ≡ Some version
+  pub chosen : answer_of role chooser number version (own_amount entries number) ≡ Some answer
+  pub level : answer.level ≤ HIGHEST
+  pub text : List ℕ
+  pub written : written_of answer nine_digits ≡ Ok text
+
+-- it may be signed, and what is signed is this answer
+pub record MaySignIt (role : Role) (chooser : Chooser) (entries : List Entry) (number : List ℕ) (answer : AnswerRecord) : Type 0 where
+  pub text : List ℕ
+  pub may : MayAnswer role chooser entries number text
+  pub is : set_in text ≡ Some (sets.Answer answer (seal_of answer (next_control entries)))
+
+-- the same of a draft of the supplier
+pub record MayProposeIt (chooser : Chooser) (entries : List Entry) (draft : BaseRecord) : Type 0 where
+  pub text : List ℕ
+  pub may : MayPropose Supplier chooser entries draft text
+  pub is : set_in text ≡ Some (sets.Base draft (base_seal draft (next_control entries)))

@@ -13,3 +13,8 @@ pub mod Beginnings
 pub mod ChosenAnswers
 pub mod Untouched
 pub mod DeliveryStands
+pub mod SeatTurns
+pub mod CourseTurns
+pub mod Settled
+pub mod SinceLast
+pub mod Declining

@@ -29,6 +29,14 @@ AreTaken (spoken ∷ more) owner hearer text old new =
     × (spoken.sets ≡ texts_of (gathered old.near.standing.header turned.proposed))
     × AreTaken more (next_owner hearer (has_none text)) (next_hearer owner (has_none text)) spoken.text next new
 
+-- The same without an end: behind each of them the session goes on.
+abbrev pub GoOn : List Spoken → Common → Common → List ℕ → Hall → Hall → Type 0
+GoOn [] owner hearer text old new = new ≡ old
+GoOn (spoken ∷ more) owner hearer text old new =
+    (next : Hall) × IsTurnTaken (length (load_of text)) old next × ((has_none text && owner.empty) ≡ false)
+    × (desk : Desk) × (turned : Turned old.near.standing.header old.near.chooser old.near.standing.desk text desk spoken.text)
+    × GoOn more (next_owner hearer (has_none text)) (next_hearer owner (has_none text)) spoken.text next new
+
 -- the end whose own turn the first one is, or the other one, behind these turns
 abbrev pub post_behind : Bool → List Spoken → Hall → Post
 post_behind true [] hall = hall.near

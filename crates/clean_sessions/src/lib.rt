@@ -7,11 +7,23 @@
 //! nothing of it is due both ends have its whole course.
 //!
 //! An own turn, as the program's ends take it, is a turn of the course of each delivery, where the end goes on with the
-//! course and what it signs of a delivery is a set of it; and it leaves both lists as the next turn finds them.
+//! course; and it leaves both lists as the next turn finds them. Own turns come to an end: each that speaks leaves less to
+//! be spoken. Behind two in a row in which nothing is due both lists have the same sets of each delivery, whatever the
+//! ends chose, and a delivery is final at both where it has an acceptance. What is spoken has at most twice the blocks of
+//! what both ends have then signed of each delivery, from its last set before the session on; from two empty lists each
+//! set is spoken once.
 //!
-//! What they do not say yet: that a clean session comes to an end, nor that what both ends accept is final at both; what
-//! is said of a session is said of one that has come to its second turn in succession without a block. Nor is it said that
-//! a world makes these steps in a clean event: completeness is no clause of the program.
+//! Without an acceptance a delivery awaits one of both ends, and that end has declined it: in its last own turn its choices
+//! gave no answer that it may sign. So it is of a draft whose delivery is still new.
+//!
+//! A session over any legal lists that back each other, with its frames, polls and turns up to the second in succession
+//! without a block, is such a row of own turns: so all this is said of it, and how many turns it has at most.
+//!
+//! What an end chooses for a delivery that awaits it is signed in that very turn, where it can be written with nine digits of
+//! a control number; and neither core looks at integrity values.
+//!
+//! What they do not say yet: which sets the choices of both ends lead to, before a session is played. That a world makes
+//! these steps in a clean event is a law of `clean_worlds`.
 #![tactic(auto)]
 
 mod block_laws;
@@ -27,11 +39,18 @@ pub use course_laws::{
     blocks_run_out, courses_are_done, deeds_take_turns, lists_are_fronts, lists_have_one_course,
     sets_are_spoken_once, turns_keep_places, turns_run_out,
 };
-pub use delivery_laws::own_turns_follow_courses;
+pub use delivery_laws::{
+    clean_sessions_come_to_an_end, clean_sessions_settle_deliveries, deliveries_are_settled,
+    followed_courses_come_to_their_end, own_sets_are_of_their_delivery,
+    own_turns_answer_deliveries, own_turns_come_to_an_end, own_turns_follow_courses,
+    own_turns_speak_few_blocks, own_turns_speak_once,
+};
 pub use line_laws::{headers_pass, turns_pass};
 pub use poll_laws::turns_are_few;
 pub use talk_laws::{
-    answers_ignore_checks, deliveries_are_asked_apart, taking_leaves_other_deliveries,
+    answers_ignore_checks, chosen_answers_are_signed_at_once, chosen_sets_may_be_signed,
+    cores_ignore_checks, deliveries_are_asked_apart, lower_controls_can_be_written,
+    taking_leaves_other_deliveries,
 };
 pub use turn_laws::{
     clean_session, clean_turns_go_on, frames_are_heard_once, loads_are_given, sessions_begin,

@@ -1,0 +1,5 @@
+pub mod WholeFrames
+pub mod WorldHalls
+pub mod CleanPlays
+pub mod CleanBeginnings
+pub mod CleanWorlds
