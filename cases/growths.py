@@ -13,7 +13,7 @@ import sys
 import tempfile
 from concurrent.futures import ThreadPoolExecutor
 
-from stops import FRONT, SETTLED
+from stops import FRONT, SETTLED, told
 
 SCRIPT = (FRONT + "CLEAN\n").encode()
 REFUSING = """
@@ -54,8 +54,8 @@ def linked(target, folder):
 
 def played(program, first, last):
     """Status and output of a replay to which these growths are refused, and how many it asked for."""
-    told = {"REFUSED_FROM": str(first), "REFUSED_TO": str(last)}
-    done = subprocess.run([program, "replay"], input=SCRIPT, env=told, capture_output=True, timeout=60)
+    refused = {"REFUSED_FROM": str(first), "REFUSED_TO": str(last)}
+    done = subprocess.run([program, "replay"], input=SCRIPT, env=refused, capture_output=True, timeout=60)
     return (done.returncode, done.stdout.decode("latin-1")), int(done.stderr)
 
 
@@ -78,11 +78,8 @@ def main():
             found = list(pool.map(lambda refused: wrong(program, *refused), ranges))
     if whole != (0, SETTLED):
         found.append(f"nothing refused: status {whole[0]}, printed {whole[1]!r}")
-    for line in filter(None, found):
-        print(line)
-    failed = sum(map(bool, found))
-    print(f"{growths} growths: {len(found) - failed} passed, {failed} failed")
-    return 1 if failed else 0
+    print(f"{growths} growths")
+    return told(found)
 
 
 if __name__ == "__main__":

@@ -78,17 +78,22 @@ def counted(program, end, which):
     return f"session {which + 1} of {end} has not {wanted} counted calls, by call {wrong[0]}" if wrong else ""
 
 
-def main():
-    program = os.path.abspath(sys.argv[1] if len(sys.argv) > 1 else "crates/dex/out/dex")
-    with ThreadPoolExecutor(os.cpu_count()) as pool:
-        told = [pool.submit(healed, program, arming) for arming in armings()]
-        told += [pool.submit(counted, program, end, which) for end in "HR" for which in (0, 1)]
-        wrong = [one.result() for one in told]
+def told(wrong):
+    """Prints what is wrong, and behind it how much passed and failed; the status of the script."""
     for line in filter(None, wrong):
         print(line)
     failed = sum(map(bool, wrong))
     print(f"{len(wrong) - failed} passed, {failed} failed")
     return 1 if failed else 0
+
+
+def main():
+    program = os.path.abspath(sys.argv[1] if len(sys.argv) > 1 else "crates/dex/out/dex")
+    with ThreadPoolExecutor(os.cpu_count()) as pool:
+        plays = [pool.submit(healed, program, arming) for arming in armings()]
+        plays += [pool.submit(counted, program, end, which) for end in "HR" for which in (0, 1)]
+        wrong = [one.result() for one in plays]
+    return told(wrong)
 
 
 if __name__ == "__main__":

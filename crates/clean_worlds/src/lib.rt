@@ -3,8 +3,9 @@
 //! What they say: a frame that is fed to a running end of a world, whose steps are those that its table says and of which no call
 //! fails, is heard whole, as a session in which every frame is delivered has it, and what the end says at it waits for the other end.
 //! A round of a clean event with one waiting frame is so a step of the hall of a clean session; and a clean event between two ends whose ids
-//! match is a whole clean session, from both openings over what the journals hold, to the end at which both ends are complete. So it heals:
-//! both ends have the same sets of each delivery behind it, final at both where one is an acceptance.
+//! match is a whole clean session, from both openings over what the journals hold, to the end at which both ends are complete. Where
+//! these are legal lists that back each other, it heals: both ends have the same sets of each delivery behind it, final at both where one is an
+//! acceptance.
 //!
 //! A world that has played a script whose last event is a clean one comes so to it, whatever the events before and whatever failed in them.
 //!
