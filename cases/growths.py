@@ -1,7 +1,7 @@
 #!/usr/bin/env python3
 """Each growth of a replay refused in turn: cases/growths.py [OBJECT]
 
-Links the object of `dex` (crates/dex/out/dex.o where none is given, which `rt ci` and a plain `rt run` leave there) anew, over a
+Links the object of `dex` (crates/dex/out/dex.o where none is given, which a run of `rt` that builds the program leaves there) anew, over a
 `malloc` and a `realloc` that refuse one call, or that call and all behind it, and plays `replay` on one adjusted delivery once for each call
 that it makes. Each play ends with status 11 and prints nothing, or ends as the undisturbed one, and so ends a later one to which nothing is refused.
 It needs `cc`, and the folder of the kit, which `rt doc` names.
