@@ -6,4 +6,5 @@ pub mod Writing
 pub mod Behind
 pub mod SignatureRecord
 pub mod HeldText
+pub mod Details
 pub mod Methods

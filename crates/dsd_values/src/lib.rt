@@ -10,6 +10,7 @@ mod cost;
 mod day;
 mod decimal;
 mod delivery_number;
+mod details;
 mod dsd_number;
 mod extra;
 mod fault;
@@ -25,6 +26,7 @@ mod quantity;
 mod role;
 mod set_text;
 mod signature;
+mod tail;
 mod word;
 mod writers;
 
@@ -35,6 +37,7 @@ pub use comm_id::{COMM_ID_BYTES, CommId, read_comm_id};
 pub use cost::{COST_DECIMALS, Cost, read_cost};
 pub use day::{Day, read_day};
 pub use delivery_number::{DELIVERY_NUMBER_BYTES, DeliveryNumber, read_delivery_number};
+pub use details::{DetailTexts, Details, ItemDetails};
 pub use dsd_number::{DsdNumber, read_dsd};
 pub use extra::{Extra, Extras};
 pub use fault::{KeptFault, Memory, ValueFault};
@@ -52,6 +55,7 @@ pub use quantity::{MOST_TOTAL_QUANTITY, Quantity, read_quantity, read_total_quan
 pub use role::{Role, read_role};
 pub use set_text::SetText;
 pub use signature::Signature;
+pub use tail::Tail;
 pub use word::{Word, read_filled_word, read_word, read_word_between};
 pub use writers::{
     write_cents, write_check, write_cost, write_day, write_dsd, write_level, write_percent,

@@ -4,11 +4,12 @@ ghost use Rattle.std.specs.Prelude.{◌≡◌, [], ◌∷◌, ◌++◌, IfOk, On
 ghost use Rattle.dsd_values.specs.Behind.{with_extra};
 
 use crate::cost::Cost;
+use crate::details::Details;
 use crate::dsd_number::DsdNumber;
 use crate::extra::{Extra, Extras};
 use crate::fault::Memory;
-use crate::kept::Kept;
 use crate::quantity::Quantity;
+use crate::tail::Tail;
 use crate::word::Word;
 use std::alloc::Global;
 use std::marker::Model;
@@ -20,14 +21,10 @@ pub struct Line {
     pub quantity: Quantity,
     pub unit: Word,
     pub upc: Word,
-    pub qualifier: Word,
-    pub id: Word,
-    pub case_code: Word,
+    pub details: Details,
     pub cost: Cost,
-    pub pack: Word,
-    pub label: Word,
     /// The elements behind the label, joined by `*`.
-    pub tail: Kept,
+    pub tail: Tail,
     pub extras: Extras,
 }
 
@@ -40,13 +37,9 @@ impl Line {
             quantity: self.quantity,
             unit: self.unit.copy(),
             upc: self.upc.copy(),
-            qualifier: self.qualifier.copy(),
-            id: self.id.copy(),
-            case_code: self.case_code.copy(),
+            details: self.details.try_copy()?,
             cost: self.cost,
-            pack: self.pack.copy(),
-            label: self.label.copy(),
-            tail: self.tail.try_copy(alloc)?,
+            tail: self.tail.try_copy()?,
             extras: self.extras.try_copy(alloc)?,
         })
     }

@@ -4,7 +4,7 @@ use base_record_894::Base;
 use dsd_pricing::Totals;
 use dsd_record::{DraftFault, DraftReason, DsdRecord};
 use dsd_values::{
-    Allowance, Cents, Extra, Extras, Flag, Line, Signature, ValueFault, Word, write_day,
+    Allowance, Cents, Details, Extra, Extras, Flag, Line, Signature, ValueFault, Word, write_day,
 };
 use handheld_core::Draft;
 use plain_lines::{Counted, CountedLines};
@@ -152,14 +152,17 @@ fn print_line<W: Write>(out: &mut W, line: &Line) -> io::Result<()> {
         word(&line.unit),
         word(&line.upc)
     )?;
-    write!(out, "{}*{}*", word(&line.qualifier), word(&line.id))?;
-    write!(
-        out,
-        "{}*{cost}*{}*",
-        word(&line.case_code),
-        word(&line.pack)
-    )?;
-    writeln!(out, "{}*{}", word(&line.label), shown(line.tail.as_slice()))
+    print_details(out, &line.details, cost)?;
+    writeln!(out, "{}", shown(line.tail.as_slice()))
+}
+
+/// Prints the details of a line, with the cost where it stands among them.
+fn print_details<W: Write>(out: &mut W, details: &Details, cost: u64) -> io::Result<()> {
+    let (qualifier, id) = (shown(details.qualifier()), shown(details.id()));
+    let (case_code, pack) = (shown(details.case_code()), shown(details.pack()));
+    write!(out, "{qualifier}*{id}*")?;
+    write!(out, "{case_code}*{cost}*{pack}*")?;
+    write!(out, "{}*", shown(details.label()))
 }
 
 fn print_extras<W: Write>(out: &mut W, extras: &Extras) -> io::Result<()> {

@@ -1,11 +1,12 @@
 -- Segments whose elements are all right say what the grammar asks, and those that say it are right.
 use Rattle.std.proofs.Common.{◌≡◌, ℕ, ◌<◌, ◌≤◌, Bool, true, false, List, [], ◌++◌, length, Option, Some, None, Ok, refl, sym, ap, ◌∙◌, subst, if◌then◌else◌}
+use Rattle.dsd_values.specs.declared.details.ItemDetails.{ItemDetails}
 use Rattle.dsd_values.specs.declared.extra.Extra.{Extra}
 use Rattle.dsd_values.specs.declared.line.Line.{Line}
 use Rattle.dsd_values.specs.SignatureRecord.{SignatureRecord}
 use Rattle.segments.specs.Views.{Seg, element_of}
 use Rattle.segments.specs.Elements.{ElementFault, at_element, said}
-use Rattle.segments.specs.Tables.{item_fault, line_in, start_fault, control_in, loop_start_fault, loop_id_in, totals_fault, totals_in, signature_fault, signature_in, integrity_fault, integrity_in, trailer_fault, stated_count_in, control_again_in}
+use Rattle.segments.specs.Tables.{item_fault, details_in, line_in, start_fault, control_in, loop_start_fault, loop_id_in, totals_fault, totals_in, signature_fault, signature_in, integrity_fault, integrity_in, trailer_fault, stated_count_in, control_again_in}
 use Rattle.segments.specs.Reasons.{loop_end_fault}
 use Rattle.segments.specs.Grammar.{IsStart, IsLoopId, IsItem, IsTotals, IsSignature, IsNoLonger}
 use Rattle.segments.specs.declared.stated.StatedTotals.{StatedTotals}
@@ -63,29 +64,38 @@ right_item line seg i =
     (none_then _ _ (ok_at 4 _ _ i.upc) (none_then _ _ (ok_at 5 _ _ i.qualifier) (none_then _ _ (ok_at 6 _ _ i.id)
     (none_then _ _ (ok_at 7 _ _ i.case_code) (none_then _ _ (ok_at 8 _ _ i.cost) (none_then _ _ (ok_at 9 _ _ i.pack) (ok_at 10 _ _ i.label)))))))))
 
-abbrev line_of : ℕ → ℕ → List ℕ → List ℕ → List ℕ → List ℕ → List ℕ → ℕ → List ℕ → List ℕ → List ℕ → List Extra → Line
-line_of dsd quantity unit upc qualifier id case_code cost pack label tail extras = record { dsd = dsd; quantity = quantity; unit = unit; upc = upc; qualifier = qualifier; id = id; case_code = case_code; cost = cost; pack = pack; label = label; tail = tail; extras = extras }
+abbrev details_of : List ℕ → List ℕ → List ℕ → List ℕ → List ℕ → ItemDetails
+details_of qualifier id case_code pack label = record { qualifier = qualifier; id = id; case_code = case_code; pack = pack; label = label }
 
-same_line : (a b : Line) → a.dsd ≡ b.dsd → a.quantity ≡ b.quantity → a.unit ≡ b.unit → a.upc ≡ b.upc → a.qualifier ≡ b.qualifier → a.id ≡ b.id → a.case_code ≡ b.case_code → a.cost ≡ b.cost → a.pack ≡ b.pack → a.label ≡ b.label → a.tail ≡ b.tail → a.extras ≡ b.extras → a ≡ b
-same_line a b e1 e2 e3 e4 e5 e6 e7 e8 e9 e10 e11 e12 =
-    ap (λ (v : ℕ). line_of v a.quantity a.unit a.upc a.qualifier a.id a.case_code a.cost a.pack a.label a.tail a.extras) e1
-    ∙ ap (λ (v : ℕ). line_of b.dsd v a.unit a.upc a.qualifier a.id a.case_code a.cost a.pack a.label a.tail a.extras) e2
-    ∙ ap (λ (v : List ℕ). line_of b.dsd b.quantity v a.upc a.qualifier a.id a.case_code a.cost a.pack a.label a.tail a.extras) e3
-    ∙ ap (λ (v : List ℕ). line_of b.dsd b.quantity b.unit v a.qualifier a.id a.case_code a.cost a.pack a.label a.tail a.extras) e4
-    ∙ ap (λ (v : List ℕ). line_of b.dsd b.quantity b.unit b.upc v a.id a.case_code a.cost a.pack a.label a.tail a.extras) e5
-    ∙ ap (λ (v : List ℕ). line_of b.dsd b.quantity b.unit b.upc b.qualifier v a.case_code a.cost a.pack a.label a.tail a.extras) e6
-    ∙ ap (λ (v : List ℕ). line_of b.dsd b.quantity b.unit b.upc b.qualifier b.id v a.cost a.pack a.label a.tail a.extras) e7
-    ∙ ap (λ (v : ℕ). line_of b.dsd b.quantity b.unit b.upc b.qualifier b.id b.case_code v a.pack a.label a.tail a.extras) e8
-    ∙ ap (λ (v : List ℕ). line_of b.dsd b.quantity b.unit b.upc b.qualifier b.id b.case_code b.cost v a.label a.tail a.extras) e9
-    ∙ ap (λ (v : List ℕ). line_of b.dsd b.quantity b.unit b.upc b.qualifier b.id b.case_code b.cost b.pack v a.tail a.extras) e10
-    ∙ ap (λ (v : List ℕ). line_of b.dsd b.quantity b.unit b.upc b.qualifier b.id b.case_code b.cost b.pack b.label v a.extras) e11
-    ∙ ap (λ (v : List Extra). line_of b.dsd b.quantity b.unit b.upc b.qualifier b.id b.case_code b.cost b.pack b.label b.tail v) e12
+same_details : (a b : ItemDetails) → a.qualifier ≡ b.qualifier → a.id ≡ b.id → a.case_code ≡ b.case_code → a.pack ≡ b.pack → a.label ≡ b.label → a ≡ b
+same_details a b e1 e2 e3 e4 e5 =
+    ap (λ (v : List ℕ). details_of v a.id a.case_code a.pack a.label) e1
+    ∙ ap (λ (v : List ℕ). details_of b.qualifier v a.case_code a.pack a.label) e2
+    ∙ ap (λ (v : List ℕ). details_of b.qualifier b.id v a.pack a.label) e3
+    ∙ ap (λ (v : List ℕ). details_of b.qualifier b.id b.case_code v a.label) e4
+    ∙ ap (λ (v : List ℕ). details_of b.qualifier b.id b.case_code b.pack v) e5
+
+abbrev line_of : ℕ → ℕ → List ℕ → List ℕ → ItemDetails → ℕ → List ℕ → List Extra → Line
+line_of dsd quantity unit upc details cost tail extras = record { dsd = dsd; quantity = quantity; unit = unit; upc = upc; details = details; cost = cost; tail = tail; extras = extras }
+
+same_line : (a b : Line) → a.dsd ≡ b.dsd → a.quantity ≡ b.quantity → a.unit ≡ b.unit → a.upc ≡ b.upc → a.details ≡ b.details → a.cost ≡ b.cost → a.tail ≡ b.tail → a.extras ≡ b.extras → a ≡ b
+same_line a b e1 e2 e3 e4 e5 e6 e7 e8 =
+    ap (λ (v : ℕ). line_of v a.quantity a.unit a.upc a.details a.cost a.tail a.extras) e1
+    ∙ ap (λ (v : ℕ). line_of b.dsd v a.unit a.upc a.details a.cost a.tail a.extras) e2
+    ∙ ap (λ (v : List ℕ). line_of b.dsd b.quantity v a.upc a.details a.cost a.tail a.extras) e3
+    ∙ ap (λ (v : List ℕ). line_of b.dsd b.quantity b.unit v a.details a.cost a.tail a.extras) e4
+    ∙ ap (λ (v : ItemDetails). line_of b.dsd b.quantity b.unit b.upc v a.cost a.tail a.extras) e5
+    ∙ ap (λ (v : ℕ). line_of b.dsd b.quantity b.unit b.upc b.details v a.tail a.extras) e6
+    ∙ ap (λ (v : List ℕ). line_of b.dsd b.quantity b.unit b.upc b.details b.cost v a.extras) e7
+    ∙ ap (λ (v : List Extra). line_of b.dsd b.quantity b.unit b.upc b.details b.cost b.tail v) e8
+
+details_said : (line : Line) (seg : Seg) → IsItem line seg → line.details ≡ details_in seg
+details_said line seg i = same_details line.details (details_in seg) (ok_said [] _ _ i.qualifier) (ok_said [] _ _ i.id) (ok_said [] _ _ i.case_code) (ok_said [] _ _ i.pack) (ok_said [] _ _ i.label)
 
 -- a line is what its item says, and the extras behind it
 pub line_said : (line : Line) (seg : Seg) → IsItem line seg → line ≡ record (line_in seg) { extras = line.extras }
 line_said line seg i = same_line line (record (line_in seg) { extras = line.extras })
-    (ok_said 0 _ _ i.dsd) (ok_said 0 _ _ i.quantity) (ok_said [] _ _ i.unit) (ok_said [] _ _ i.upc) (ok_said [] _ _ i.qualifier) (ok_said [] _ _ i.id)
-    (ok_said [] _ _ i.case_code) (ok_said 0 _ _ i.cost) (ok_said [] _ _ i.pack) (ok_said [] _ _ i.label) (sym i.tail) refl
+    (ok_said 0 _ _ i.dsd) (ok_said 0 _ _ i.quantity) (ok_said [] _ _ i.unit) (ok_said [] _ _ i.upc) (details_said line seg i) (ok_said 0 _ _ i.cost) (sym i.tail) refl
 
 -- ---- starts and labels
 

@@ -132,12 +132,12 @@ pub record ItemElements (line : Line) : Type 0 where
   pub quantity : IsReadAs quantity_of line.quantity (number_text line.quantity)
   pub unit : IsReadAs filled_word_of line.unit line.unit
   pub upc : IsReadAs word_of line.upc line.upc
-  pub qualifier : IsReadAs word_of line.qualifier line.qualifier
-  pub id : IsReadAs word_of line.id line.id
-  pub case_code : IsReadAs word_of line.case_code line.case_code
+  pub qualifier : IsReadAs word_of line.details.qualifier line.details.qualifier
+  pub id : IsReadAs word_of line.details.id line.details.id
+  pub case_code : IsReadAs word_of line.details.case_code line.details.case_code
   pub cost : IsReadAs cost_of line.cost (cost_text line.cost)
-  pub pack : IsReadAs word_of line.pack line.pack
-  pub label : IsReadAs word_of line.label line.label
+  pub pack : IsReadAs word_of line.details.pack line.details.pack
+  pub label : IsReadAs word_of line.details.label line.details.label
   pub tail : IsTail 11 line.tail
 
 pub item_elements_again : (line : Line) (seg : Seg) → IsSegment seg.parts → IsItem line seg → ItemElements line
@@ -146,12 +146,12 @@ item_elements_again line seg s is = record {
   quantity = quantity_again line.quantity (element_of seg 2) is.quantity;
   unit = filled_word_again (element_of seg 3) line.unit is.unit;
   upc = word_again (element_of seg 4) line.upc is.upc;
-  qualifier = word_again (element_of seg 5) line.qualifier is.qualifier;
-  id = word_again (element_of seg 6) line.id is.id;
-  case_code = word_again (element_of seg 7) line.case_code is.case_code;
+  qualifier = word_again (element_of seg 5) line.details.qualifier is.qualifier;
+  id = word_again (element_of seg 6) line.details.id is.id;
+  case_code = word_again (element_of seg 7) line.details.case_code is.case_code;
   cost = cost_again line.cost (element_of seg 8) is.cost;
-  pack = word_again (element_of seg 9) line.pack is.pack;
-  label = word_again (element_of seg 10) line.label is.label;
+  pack = word_again (element_of seg 9) line.details.pack is.pack;
+  label = word_again (element_of seg 10) line.details.label is.label;
   tail = tail_is 11 seg line.tail (omega arith) s is.tail;
 }
 
@@ -162,12 +162,12 @@ item_written form line are = record {
     quantity = reads_at quantity_of line.quantity place 2 (item_row form line) are.quantity;
     unit = reads_at filled_word_of line.unit place 3 (item_row form line) are.unit;
     upc = reads_at word_of line.upc place 4 (item_row form line) are.upc;
-    qualifier = reads_at word_of line.qualifier place 5 (item_row form line) are.qualifier;
-    id = reads_at word_of line.id place 6 (item_row form line) are.id;
-    case_code = reads_at word_of line.case_code place 7 (item_row form line) are.case_code;
+    qualifier = reads_at word_of line.details.qualifier place 5 (item_row form line) are.qualifier;
+    id = reads_at word_of line.details.id place 6 (item_row form line) are.id;
+    case_code = reads_at word_of line.details.case_code place 7 (item_row form line) are.case_code;
     cost = reads_at cost_of line.cost place 8 (item_row form line) are.cost;
-    pack = reads_at word_of line.pack place 9 (item_row form line) are.pack;
-    label = reads_at word_of line.label place 10 (item_row form line) are.label;
+    pack = reads_at word_of line.details.pack place 9 (item_row form line) are.pack;
+    label = reads_at word_of line.details.label place 10 (item_row form line) are.label;
     tail = tail_again place 11 (item_row form line) line.tail refl are.tail;
   };
   segment = row_segment (item_id form) (item_elements line) line.tail 11 (item_id_is form)

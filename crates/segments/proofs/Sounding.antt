@@ -70,12 +70,12 @@ line_elements line is = record {
   quantity = quantity_plain line.quantity is.quantity;
   unit = filled_word_plain line.unit is.unit is.filled;
   upc = word_plain line.upc is.upc;
-  qualifier = word_plain line.qualifier is.qualifier;
-  id = word_plain line.id is.id;
-  case_code = word_plain line.case_code is.case_code;
+  qualifier = word_plain line.details.qualifier is.qualifier;
+  id = word_plain line.details.id is.id;
+  case_code = word_plain line.details.case_code is.case_code;
   cost = cost_plain line.cost is.cost;
-  pack = word_plain line.pack is.pack;
-  label = word_plain line.label is.label;
+  pack = word_plain line.details.pack is.pack;
+  label = word_plain line.details.label is.label;
   tail = subst (λ (t : List ℕ). IsTail 11 t) (sym is.tail) (no_tail 11 (omega arith));
 }
 

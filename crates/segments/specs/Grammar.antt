@@ -61,12 +61,12 @@ pub record IsItem (line : Line) (seg : Seg) : Type 0 where
   pub quantity : quantity_of (element_of seg 2) ≡ Ok line.quantity
   pub unit : filled_word_of (element_of seg 3) ≡ Ok line.unit
   pub upc : word_of (element_of seg 4) ≡ Ok line.upc
-  pub qualifier : word_of (element_of seg 5) ≡ Ok line.qualifier
-  pub id : word_of (element_of seg 6) ≡ Ok line.id
-  pub case_code : word_of (element_of seg 7) ≡ Ok line.case_code
+  pub qualifier : word_of (element_of seg 5) ≡ Ok line.details.qualifier
+  pub id : word_of (element_of seg 6) ≡ Ok line.details.id
+  pub case_code : word_of (element_of seg 7) ≡ Ok line.details.case_code
   pub cost : cost_of (element_of seg 8) ≡ Ok line.cost
-  pub pack : word_of (element_of seg 9) ≡ Ok line.pack
-  pub label : word_of (element_of seg 10) ≡ Ok line.label
+  pub pack : word_of (element_of seg 9) ≡ Ok line.details.pack
+  pub label : word_of (element_of seg 10) ≡ Ok line.details.label
   pub tail : tail_from 11 seg ≡ line.tail
 
 -- G84: the totals as they are stated

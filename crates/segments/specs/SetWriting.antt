@@ -55,7 +55,7 @@ kept_row text = row_of (before_first is_star text) [] (after_first is_star text)
 -- G83 and G89: a line
 abbrev pub item_elements : Line → List (List ℕ)
 item_elements line =
-    number_text line.dsd ∷ number_text line.quantity ∷ line.unit ∷ line.upc ∷ line.qualifier ∷ line.id ∷ line.case_code ∷ cost_text line.cost ∷ line.pack ∷ line.label ∷ []
+    number_text line.dsd ∷ number_text line.quantity ∷ line.unit ∷ line.upc ∷ line.details.qualifier ∷ line.details.id ∷ line.details.case_code ∷ cost_text line.cost ∷ line.details.pack ∷ line.details.label ∷ []
 
 abbrev pub item_row : Form → Line → Row
 item_row form line = row_of (item_id form) (item_elements line) line.tail

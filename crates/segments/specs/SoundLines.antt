@@ -77,12 +77,12 @@ pub record IsPlainLine (line : Line) : Type 0 where
   pub unit : IsPlainWord line.unit
   pub filled : 0 < length line.unit
   pub upc : IsPlainWord line.upc
-  pub qualifier : IsPlainWord line.qualifier
-  pub id : IsPlainWord line.id
-  pub case_code : IsPlainWord line.case_code
+  pub qualifier : IsPlainWord line.details.qualifier
+  pub id : IsPlainWord line.details.id
+  pub case_code : IsPlainWord line.details.case_code
   pub cost : line.cost ≤ MOST_COST
-  pub pack : IsPlainWord line.pack
-  pub label : IsPlainWord line.label
+  pub pack : IsPlainWord line.details.pack
+  pub label : IsPlainWord line.details.label
   pub tail : line.tail ≡ []
 
 -- a number that may be left out

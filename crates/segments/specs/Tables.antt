@@ -3,6 +3,7 @@
 -- are this project's profile.
 use Rattle.std.specs.Prelude.{ℕ, List, [], Option, None}
 use Rattle.dsd_values.specs.Reading.{plain_number_of, dsd_of, quantity_of, total_quantity_of, cents_of, cost_of, check_of, word_of, filled_word_of, word_between}
+use Rattle.dsd_values.specs.declared.details.ItemDetails.{ItemDetails}
 use Rattle.dsd_values.specs.declared.limits.TheConstants.{MARK_BYTES}
 use Rattle.dsd_values.specs.declared.line.Line.{Line}
 use Rattle.dsd_values.specs.SignatureRecord.{SignatureRecord}
@@ -25,6 +26,15 @@ item_fault seg =
     or_else at_element 9 (word_of (element_of seg 9))
     or_else at_element 10 (word_of (element_of seg 10))
 
+abbrev pub details_in : Seg → ItemDetails
+details_in seg = record {
+  qualifier = said [] (word_of (element_of seg 5));
+  id = said [] (word_of (element_of seg 6));
+  case_code = said [] (word_of (element_of seg 7));
+  pack = said [] (word_of (element_of seg 9));
+  label = said [] (word_of (element_of seg 10));
+}
+
 -- the line of an item whose elements are right
 abbrev pub line_in : Seg → Line
 line_in seg = record {
@@ -32,12 +42,8 @@ line_in seg = record {
   quantity = said 0 (quantity_of (element_of seg 2));
   unit = said [] (filled_word_of (element_of seg 3));
   upc = said [] (word_of (element_of seg 4));
-  qualifier = said [] (word_of (element_of seg 5));
-  id = said [] (word_of (element_of seg 6));
-  case_code = said [] (word_of (element_of seg 7));
+  details = details_in seg;
   cost = said 0 (cost_of (element_of seg 8));
-  pack = said [] (word_of (element_of seg 9));
-  label = said [] (word_of (element_of seg 10));
   tail = tail_from 11 seg;
   extras = [];
 }

@@ -7,10 +7,10 @@ ghost use Rattle.segments.specs.Grammar.{IsItem};
 ghost use Rattle.segments.specs.Elements.{Reads};
 ghost use Rattle.segments.specs.Tables.{item_fault, line_in};
 
-use crate::elements::{cost_at, dsd_at, filled_word_at, quantity_at, tail_at, word_at};
+use crate::elements::{cost_at, dsd_at, filled_text_at, quantity_at, tail_at, word_text_at};
 use crate::item_fault::ItemFault;
 use crate::segment::Segment;
-use dsd_values::{Extras, Line};
+use dsd_values::{DetailTexts, Details, Extras, Line, Tail, Word};
 use std::alloc::Global;
 
 /// The line of a G83 or a G89: its ten elements, and the tail behind them. The id of the segment is not looked at.
@@ -29,26 +29,31 @@ fn parse_item(alloc: Global, segment: &Segment<'_>) -> Result<Line, ItemFault>
 {
     let dsd = dsd_at(segment, 1)?;
     let quantity = quantity_at(segment, 2)?;
-    let unit = filled_word_at(segment, 3)?;
-    let upc = word_at(segment, 4)?;
-    let qualifier = word_at(segment, 5)?;
-    let id = word_at(segment, 6)?;
-    let case_code = word_at(segment, 7)?;
+    let unit = filled_text_at(segment, 3)?;
+    let upc = word_text_at(segment, 4)?;
+    let qualifier = word_text_at(segment, 5)?;
+    let id = word_text_at(segment, 6)?;
+    let case_code = word_text_at(segment, 7)?;
     let cost = cost_at(segment, 8)?;
-    let pack = word_at(segment, 9)?;
-    let label = word_at(segment, 10)?;
-    let tail = tail_at(alloc, segment, 11)?;
-    Ok(Line {
-        dsd,
-        quantity,
-        unit,
-        upc,
+    let pack = word_text_at(segment, 9)?;
+    let label = word_text_at(segment, 10)?;
+    let texts = DetailTexts {
         qualifier,
         id,
         case_code,
-        cost,
         pack,
         label,
+    };
+    let details = Details::new(alloc, &texts)?;
+    let tail = Tail::new(alloc, tail_at(alloc, segment, 11)?)?;
+    // The words are made last, each in its place: one that is made at its element is moved at each step behind it.
+    Ok(Line {
+        dsd,
+        quantity,
+        unit: Word::new(unit),
+        upc: Word::new(upc),
+        details,
+        cost,
         tail,
         extras: Extras::new(alloc),
     })

@@ -62,10 +62,12 @@ impl SegmentWriter {
         requires few { length (parts_of_begun self.old.begun) ≤ SEGMENT_ELEMENTS }
         ensures { OnOk result (self.new ≡ given text.now self.old) }
     {
-        push_element(&mut self.text, text)?;
+        // Many elements are empty, and what is copied costs a call.
         if text.is_empty() {
+            push_star(&mut self.text)?;
             return Ok(());
         }
+        push_element(&mut self.text, text)?;
         self.filled = self.text.len();
         Ok(())
     }
@@ -113,6 +115,15 @@ fn extend(text: &mut Vec<u8>, more: &[u8]) -> Result<(), Memory>
     ensures err { OnErr result (text.new.items ≡ text.old.items) }
 {
     text.extend_from_slice(more)?;
+    Ok(())
+}
+
+/// Appends a `*`.
+fn push_star(text: &mut Vec<u8>) -> Result<(), Memory>
+    ensures ok { OnOk result (text.new.items ≡ text.old.items ++ 42 ∷ []) }
+    ensures err { OnErr result (text.new.items ≡ text.old.items) }
+{
+    text.push(b'*')?;
     Ok(())
 }
 
