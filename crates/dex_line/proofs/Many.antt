@@ -4,12 +4,12 @@ use Rattle.std.specs.Prelude.{is_some}
 use Rattle.std.proofs.lemmas.List.{take_more, take-append-drop, drop-take}
 use Rattle.std.proofs.lemmas.List.Sums.{fold-append}
 use Rattle.dex_line.specs.Bytes.{dle}
-use Rattle.dex_line.specs.FrameShapes.{Ack0, answer_seen, frame_seen, shapes_seen}
+use Rattle.dex_line.specs.FrameShapes.{Ack0}
 use Rattle.dex_line.specs.FrameSpelling.{opening, IsBegun}
 use Rattle.dex_line.specs.Hearing.{after_answer, hear, hear_all, hearing}
 use Rattle.dex_line.specs.Judging.{judge}
-use Rattle.dex_line.specs.Scanning.{begun, kept, IsSound}
-use Rattle.dex_line.specs.declared.frame.Frame.{Frame}
+use Rattle.dex_line.specs.Scanning.{begun, ended_seen, ending_seen, endings_seen, kept, IsSound}
+use Rattle.dex_line.specs.declared.ended.Ended.{Ended}
 use Rattle.dex_line.specs.declared.begun.Stage.{Stage}
 use Rattle.dex_line.specs.declared.begun.Stage.TheVariants.{Idle, Marked, Text, Closing, Check, Low}
 use Rattle.dex_line.proofs.Told.{Told, told_begun, told_so_far, told_marked_end, told_closed, told_low}
@@ -48,26 +48,26 @@ text_heard start bytes old new place next on heard grows begins =
     ∙ ap (λ h. hear_all h piece) heard ∙ begun_heard old piece [] (subst (λ l. IsBegun l) grows begins)
     ∙ ap (λ l. hearing l []) (sym grows)
 
--- no answer is no frame
-pub none_seen : (answer : Option Frame) → is_some answer ≡ false → shapes_seen answer ≡ []
-none_seen None none = refl
-none_seen (Some frame) none = absurd (cc)
+-- where nothing has ended there is no frame
+pub none_seen : (ended : Option Ended) (text : List ℕ) → is_some ended ≡ false → endings_seen ended text ≡ []
+none_seen None text none = refl
+none_seen (Some ended) text none = absurd (cc)
 
--- what one push leaves is what is heard
-step_heard : (bytes new : List ℕ) (answer : Option Frame) → answer_seen answer ≡ judge bytes → new ≡ kept answer bytes
-    → after_answer [] bytes (judge bytes) ≡ hearing new (shapes_seen answer)
-step_heard bytes new None told left = ap (after_answer [] bytes) (sym told) ∙ ap (λ b. hearing b []) (sym left)
-step_heard bytes new (Some frame) told left =
-    ap (after_answer [] bytes) (sym told) ∙ ap (λ b. hearing b (frame_seen frame ∷ [])) (sym left)
+-- what one byte leaves is what is heard
+step_heard : (bytes new text : List ℕ) (ended : Option Ended) → ending_seen ended text ≡ judge bytes → new ≡ kept ended bytes
+    → after_answer [] bytes (judge bytes) ≡ hearing new (endings_seen ended text)
+step_heard bytes new text None told left = ap (after_answer [] bytes) (sym told) ∙ ap (λ b. hearing b []) (sym left)
+step_heard bytes new text (Some ended) told left =
+    ap (after_answer [] bytes) (sym told) ∙ ap (λ b. hearing b (ended_seen ended text ∷ [])) (sym left)
 
--- a byte is heard with its answer
-pub byte_heard : (start bytes old new : List ℕ) (place : ℕ) (answer : Option Frame) → place < length bytes
+-- a byte is heard with what has ended
+pub byte_heard : (start bytes old new text : List ℕ) (place : ℕ) (ended : Option Ended) → place < length bytes
     → hear_all (hearing start []) (take place bytes) ≡ hearing old []
-    → answer_seen answer ≡ judge (old ++ get_or bytes place 0 ∷ [])
-    → new ≡ kept answer (old ++ get_or bytes place 0 ∷ [])
-    → hear_all (hearing start []) (take (place + 1) bytes) ≡ hearing new (shapes_seen answer)
-byte_heard start bytes old new place answer inside heard told left =
+    → ending_seen ended text ≡ judge (old ++ get_or bytes place 0 ∷ [])
+    → new ≡ kept ended (old ++ get_or bytes place 0 ∷ [])
+    → hear_all (hearing start []) (take (place + 1) bytes) ≡ hearing new (endings_seen ended text)
+byte_heard start bytes old new text place ended inside heard told left =
     let b : ℕ = get_or bytes place 0 in
     ap (hear_all (hearing start [])) (take_more bytes place 0 inside)
     ∙ fold-append hear (hearing start []) (take place bytes) (b ∷ [])
-    ∙ ap (λ h. hear h b) heard ∙ step_heard (old ++ b ∷ []) new answer told left
+    ∙ ap (λ h. hear h b) heard ∙ step_heard (old ++ b ∷ []) new text ended told left

@@ -3,12 +3,14 @@ use Rattle.std.specs.Prelude.{◌≡◌, ℕ, ◌≤◌, true, List, [], ◌∷�
 use Rattle.std.specs.List.{list_all}
 use Rattle.block_check.specs.Crc16.{crc_of}
 use Rattle.dex_line.specs.Bytes.{dle, is_text}
-use Rattle.dex_line.specs.FrameShapes.{FrameShape, Bad}
+use Rattle.dex_line.specs.FrameShapes.{FrameShape, Enq, Ack0, Ack1, Nak, Eot, Damaged, Bad}
 use Rattle.dex_line.specs.FrameSpelling.{is_closing, most_text, opening, IsTextOf}
-use Rattle.dex_line.specs.Judging.{judge, judge_marked, judge_text, judge_closing, judge_check}
+use Rattle.dex_line.specs.Judging.{closed, judge, judge_marked, judge_text, judge_closing, judge_check}
 use Rattle.dex_line.specs.declared.frame.Opened.{Opened}
 use Rattle.dex_line.specs.declared.begun.Begun.{Begun}
 use Rattle.dex_line.specs.declared.begun.Stage.{Stage}
+use Rattle.dex_line.specs.declared.ended.Ended.{Ended}
+use Rattle.dex_line.specs.declared.ended.Ended.TheVariants as endings
 use Rattle.dex_line.specs.declared.begun.Stage.TheVariants.{Idle, Marked, Text, Closing, Check, Low}
 
 -- the bytes since the last answer
@@ -73,6 +75,43 @@ judged_with bytes b = judged_at bytes.stage bytes.text.items b
 
 abbrev pub IsHeld : Begun → Type 0
 IsHeld bytes = IsSound bytes.stage bytes.text.items bytes.check
+
+-- ---- what has ended
+
+-- a frame by what has ended and its text
+abbrev pub ended_seen : Ended → List ℕ → FrameShape
+ended_seen endings.Enq text = Enq
+ended_seen endings.Ack0 text = Ack0
+ended_seen endings.Ack1 text = Ack1
+ended_seen endings.Nak text = Nak
+ended_seen endings.Eot text = Eot
+ended_seen (endings.Closed opened closing) text = closed opened text closing
+ended_seen endings.Damaged text = Damaged
+ended_seen endings.Bad text = Bad
+
+abbrev pub ending_seen : Option Ended → List ℕ → Option FrameShape
+ending_seen None text = None
+ending_seen (Some ended) text = Some (ended_seen ended text)
+
+-- the same as a list
+abbrev pub endings_seen : Option Ended → List ℕ → List FrameShape
+endings_seen None text = []
+endings_seen (Some ended) text = ended_seen ended text ∷ []
+
+-- a header or block that has ended may have the text
+abbrev pub HasText : Ended → List ℕ → Type 0
+HasText endings.Enq text = ⊤
+HasText endings.Ack0 text = ⊤
+HasText endings.Ack1 text = ⊤
+HasText endings.Nak text = ⊤
+HasText endings.Eot text = ⊤
+HasText (endings.Closed opened closing) text = IsTextOf opened text
+HasText endings.Damaged text = ⊤
+HasText endings.Bad text = ⊤
+
+abbrev pub HasEnded : Option Ended → List ℕ → Type 0
+HasEnded None text = ⊤
+HasEnded (Some ended) text = HasText ended text
 
 -- ---- answers
 

@@ -1,14 +1,15 @@
 //! The bytes since the last answer, taken apart as they come.
 
-ghost use Rattle.std.specs.Prelude.{◌≡◌, ◌≤◌, ◌∷◌, ◌++◌, [], length, take};
+ghost use Rattle.std.specs.Prelude.{◌≡◌, ◌≤◌, ◌-◌, ◌∷◌, ◌++◌, [], length, take, drop, IsSome, IsNone};
 ghost use Rattle.dex_line.specs.Bytes.{dle};
-ghost use Rattle.dex_line.specs.FrameShapes.{answer_seen, frame_seen};
-ghost use Rattle.dex_line.specs.FrameSpelling.{IsTextOf};
-ghost use Rattle.dex_line.specs.Judging.{closed};
-ghost use Rattle.dex_line.specs.Scanning.{begun, begun_with, held, held_with, judged_at, judged_with, kept, IsHeld, IsSound};
+ghost use Rattle.dex_line.specs.FrameSpelling.{IsBegun};
+ghost use Rattle.dex_line.specs.Hearing.{hear_all, hearing};
+ghost use Rattle.dex_line.specs.Judging.{judge};
+ghost use Rattle.dex_line.specs.Scanning.{begun, begun_with, ending_seen, endings_seen, held, held_with, judged_at, judged_with, kept, quieted, HasEnded, IsHeld, IsSound};
 
-use super::bytes::{DLE, ENQ, EOT, ETX, NAK, SOH, STX, is_text_byte, text_run};
-use super::frame::{BLOCK_READ, Frame, Opened};
+use super::bytes::{DLE, ENQ, EOT, NAK, SOH, STX, is_text_byte, text_run};
+use super::ended::Ended;
+use super::frame::{BLOCK_READ, Opened};
 use arrayvec::ArrayVec;
 use block_check::Running;
 
@@ -38,12 +39,76 @@ pub(crate) struct Begun {
 }
 
 impl Begun {
-    /// Takes the next byte, and answers where it ends a frame or makes it bad.
-    pub(crate) fn push(&mut self, byte: u8) -> Option<Frame>
+    /// Hears bytes up to the first that ends a frame or makes it bad. Tells how many it has taken, and what has ended.
+    pub(crate) fn hear(&mut self, bytes: &[u8]) -> (usize, Option<Ended>)
         requires { IsHeld self.old }
-        ensures answer { answer_seen result ≡ judged_with self.old byte }
+        ensures inside { result.0 ≤ length bytes.now }
+        ensures heard { hear_all (hearing (held self.old) []) (take result.0 bytes.now)
+            ≡ hearing (held self.new) (endings_seen result.1 self.new.text.items) }
+        ensures all { IsNone result.1 → result.0 ≡ length bytes.now }
+        ensures left { IsSome result.1 → held self.new ≡ [] }
+        ensures sound { IsHeld self.new }
+        ensures text { HasEnded result.1 self.new.text.items }
+    {
+        let mut place = 0;
+        loop {
+            place = self.pass_text(bytes, place);
+            if place == bytes.len() {
+                return (place, None);
+            }
+            let ended = self.hear_byte(bytes[place]);
+            place += 1;
+            if ended.is_some() {
+                return (place, ended);
+            }
+        }
+    }
+
+    /// Hears one byte, and tells what has ended with it.
+    #[tactic(auto, using(crate::proofs::Judged::judged, crate::proofs::Judged::grown))]
+    pub(crate) fn hear_byte(&mut self, byte: u8) -> Option<Ended>
+        requires { IsHeld self.old }
+        ensures answer { ending_seen result self.new.text.items ≡ judge (held self.old ++ byte ∷ []) }
+        ensures left { held self.new ≡ kept result (held self.old ++ byte ∷ []) }
+        ensures sound { IsHeld self.new }
+        ensures text { HasEnded result self.new.text.items }
+    {
+        self.push(byte)
+    }
+
+    /// Takes at once the bytes from this place on that go on a text. Tells the place behind them.
+    fn pass_text(&mut self, bytes: &[u8], place: usize) -> usize
+        requires sound { IsHeld self.old }
+        requires place { place ≤ length bytes.now }
+        ensures onward { place ≤ result }
+        ensures inside { result ≤ length bytes.now }
+        ensures left { held self.new ≡ held self.old ++ take (result - place) (drop place bytes.now) }
+        ensures begun { IsBegun (held self.new) }
+        ensures sound { IsHeld self.new }
+    {
+        place + self.take_text(&bytes[place..])
+    }
+
+    /// Drops what has begun. Tells whether anything had.
+    pub(crate) fn drop_all(&mut self) -> Option<Ended>
+        ensures answer { ending_seen result self.new.text.items ≡ quieted (held self.old) }
+        ensures left { held self.new ≡ [] }
+        ensures sound { IsHeld self.new }
+        ensures text { HasEnded result self.new.text.items }
+    {
+        match self.stage {
+            Stage::Idle => None,
+            _ => self.give(Ended::Bad),
+        }
+    }
+
+    /// Takes the next byte, by the stage.
+    fn push(&mut self, byte: u8) -> Option<Ended>
+        requires { IsHeld self.old }
+        ensures answer { ending_seen result self.new.text.items ≡ judged_with self.old byte }
         ensures left { held self.new ≡ kept result (held_with self.old byte) }
         ensures sound { IsHeld self.new }
+        ensures text { HasEnded result self.new.text.items }
     {
         match self.stage {
             Stage::Idle => self.start(byte),
@@ -57,7 +122,7 @@ impl Begun {
 
     /// Takes at once the bytes that go on a text, and tells how many they are.
     #[tactic(auto, using(crate::proofs::Judged::grown_none))]
-    pub(crate) fn take_text(&mut self, bytes: &[u8]) -> usize
+    fn take_text(&mut self, bytes: &[u8]) -> usize
         requires { IsHeld self.old }
         ensures inside { result ≤ length bytes.now }
         ensures left { held self.new ≡ held self.old ++ take result bytes.now }
@@ -86,42 +151,45 @@ impl Begun {
     }
 
     /// The first byte of a frame.
-    fn start(&mut self, byte: u8) -> Option<Frame>
-        ensures answer { answer_seen result ≡ judged_at Stage.Idle [] byte }
+    fn start(&mut self, byte: u8) -> Option<Ended>
+        ensures answer { ending_seen result self.new.text.items ≡ judged_at Stage.Idle [] byte }
         ensures left { held self.new ≡ kept result (byte ∷ []) }
         ensures sound { IsHeld self.new }
+        ensures text { HasEnded result self.new.text.items }
     {
         match byte {
             DLE => self.go(Stage::Marked),
-            ENQ => self.give(Frame::Enq),
-            NAK => self.give(Frame::Nak),
-            EOT => self.give(Frame::Eot),
-            _ => self.give(Frame::Bad),
+            ENQ => self.give(Ended::Enq),
+            NAK => self.give(Ended::Nak),
+            EOT => self.give(Ended::Eot),
+            _ => self.give(Ended::Bad),
         }
     }
 
     /// The byte behind a first DLE.
-    fn mark(&mut self, byte: u8) -> Option<Frame>
-        ensures answer { answer_seen result ≡ judged_at Stage.Marked [] byte }
+    fn mark(&mut self, byte: u8) -> Option<Ended>
+        ensures answer { ending_seen result self.new.text.items ≡ judged_at Stage.Marked [] byte }
         ensures left { held self.new ≡ kept result (dle ∷ byte ∷ []) }
         ensures sound { IsHeld self.new }
+        ensures text { HasEnded result self.new.text.items }
     {
         match byte {
-            b'0' => self.give(Frame::Ack0),
-            b'1' => self.give(Frame::Ack1),
+            b'0' => self.give(Ended::Ack0),
+            b'1' => self.give(Ended::Ack1),
             SOH => self.open(Opened::Header),
             STX => self.open(Opened::Block),
-            _ => self.give(Frame::Bad),
+            _ => self.give(Ended::Bad),
         }
     }
 
     /// A byte of a text, or the DLE behind it.
     #[tactic(auto, using(crate::proofs::Judged::text_grows, crate::proofs::Judged::text_whole, crate::proofs::Judged::not_text))]
-    fn take(&mut self, opened: Opened, byte: u8) -> Option<Frame>
+    fn take(&mut self, opened: Opened, byte: u8) -> Option<Ended>
         requires { IsSound (Stage.Text opened) self.old.text.items self.old.check }
-        ensures answer { answer_seen result ≡ judged_at (Stage.Text opened) self.old.text.items byte }
+        ensures answer { ending_seen result self.new.text.items ≡ judged_at (Stage.Text opened) self.old.text.items byte }
         ensures left { held self.new ≡ kept result (begun_with (Stage.Text opened) self.old.text.items byte) }
         ensures sound { IsHeld self.new }
+        ensures text { HasEnded result self.new.text.items }
     {
         if is_text_byte(byte) {
             if self.text.len() < opened.limit() {
@@ -132,54 +200,57 @@ impl Begun {
         } else if byte == DLE && !self.text.is_empty() {
             return self.go(Stage::Closing(opened));
         }
-        self.give(Frame::Bad)
+        self.give(Ended::Bad)
     }
 
     /// The byte that closes a header or block.
     #[tactic(auto, using(crate::proofs::Judged::closes))]
-    fn close(&mut self, opened: Opened, byte: u8) -> Option<Frame>
+    fn close(&mut self, opened: Opened, byte: u8) -> Option<Ended>
         requires { IsSound (Stage.Closing opened) self.old.text.items self.old.check }
-        ensures answer { answer_seen result ≡ judged_at (Stage.Closing opened) self.old.text.items byte }
+        ensures answer { ending_seen result self.new.text.items ≡ judged_at (Stage.Closing opened) self.old.text.items byte }
         ensures left { held self.new ≡ kept result (begun_with (Stage.Closing opened) self.old.text.items byte) }
         ensures sound { IsHeld self.new }
+        ensures text { HasEnded result self.new.text.items }
     {
         if opened.is_closed_by(byte) {
             self.check.take(byte);
             return self.go(Stage::Check(opened, byte));
         }
-        self.give(Frame::Bad)
+        self.give(Ended::Bad)
     }
 
     /// The low byte of a check.
-    fn take_low(&mut self, opened: Opened, closing: u8, byte: u8) -> Option<Frame>
+    fn take_low(&mut self, opened: Opened, closing: u8, byte: u8) -> Option<Ended>
         requires { IsSound (Stage.Check opened closing) self.old.text.items self.old.check }
-        ensures answer { answer_seen result ≡ judged_at (Stage.Check opened closing) self.old.text.items byte }
+        ensures answer { ending_seen result self.new.text.items ≡ judged_at (Stage.Check opened closing) self.old.text.items byte }
         ensures left { held self.new ≡ kept result (begun_with (Stage.Check opened closing) self.old.text.items byte) }
         ensures sound { IsHeld self.new }
+        ensures text { HasEnded result self.new.text.items }
     {
         self.go(Stage::Low(opened, closing, byte))
     }
 
     /// The high byte of a check, which ends the frame.
-    fn take_high(&mut self, opened: Opened, closing: u8, low: u8, byte: u8) -> Option<Frame>
+    fn take_high(&mut self, opened: Opened, closing: u8, low: u8, byte: u8) -> Option<Ended>
         requires { IsSound (Stage.Low opened closing low) self.old.text.items self.old.check }
-        ensures answer { answer_seen result ≡ judged_at (Stage.Low opened closing low) self.old.text.items byte }
+        ensures answer { ending_seen result self.new.text.items ≡ judged_at (Stage.Low opened closing low) self.old.text.items byte }
         ensures left { held self.new ≡ kept result (begun_with (Stage.Low opened closing low) self.old.text.items byte) }
         ensures sound { IsHeld self.new }
+        ensures text { HasEnded result self.new.text.items }
     {
         let check = self.check.value();
         if low == (check & 0xFF) as u8 && byte == (check >> 8) as u8 {
-            let frame = whole(opened, closing, self.text.as_slice());
-            return self.give(frame);
+            return self.give(Ended::Closed(opened, closing));
         }
-        self.give(Frame::Damaged)
+        self.give(Ended::Damaged)
     }
 
     /// Opens a header or block.
-    fn open(&mut self, opened: Opened) -> Option<Frame>
-        ensures answer { answer_seen result ≡ None }
+    fn open(&mut self, opened: Opened) -> Option<Ended>
+        ensures answer { ending_seen result self.new.text.items ≡ None }
         ensures left { held self.new ≡ begun (Stage.Text opened) [] }
         ensures sound { IsHeld self.new }
+        ensures text { HasEnded result self.new.text.items }
     {
         self.text.clear();
         self.check = Running::new();
@@ -187,7 +258,7 @@ impl Begun {
     }
 
     /// Goes on without an answer.
-    fn go(&mut self, stage: Stage) -> Option<Frame>
+    fn go(&mut self, stage: Stage) -> Option<Ended>
         ensures answer { result ≡ None }
         ensures new { self.new ≡ record self.old { stage = stage } }
     {
@@ -196,22 +267,11 @@ impl Begun {
     }
 
     /// Answers, and begins anew.
-    pub(crate) fn give(&mut self, frame: Frame) -> Option<Frame>
-        ensures answer { result ≡ Some frame }
+    fn give(&mut self, ended: Ended) -> Option<Ended>
+        ensures answer { result ≡ Some ended }
         ensures new { self.new ≡ record self.old { stage = Stage.Idle } }
     {
         self.stage = Stage::Idle;
-        Some(frame)
-    }
-}
-
-/// A header or block whose check was the right one.
-fn whole(opened: Opened, closing: u8, text: &[u8]) -> Frame
-    requires { IsTextOf opened text.now }
-    ensures { frame_seen result ≡ closed opened text.now closing }
-{
-    match opened {
-        Opened::Header => Frame::header(text),
-        Opened::Block => Frame::block(closing == ETX, text),
+        Some(ended)
     }
 }

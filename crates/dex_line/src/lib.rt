@@ -4,6 +4,7 @@
 mod begun;
 mod bytes;
 mod cutter;
+mod ended;
 mod first;
 mod frame;
 mod frames;

@@ -1,13 +1,14 @@
 //! A scanner, which finds the frames in bytes that come one at a time.
 
-ghost use Rattle.std.specs.Prelude.{◌≡◌, ◌≤◌, ◌-◌, ◌++◌, ◌∷◌, [], length, take, drop, IsSome, IsNone};
+ghost use Rattle.std.specs.Prelude.{◌≡◌, ◌≤◌, ◌++◌, ◌∷◌, [], length, take, IsSome, IsNone};
 ghost use Rattle.dex_line.specs.FrameShapes.{answer_seen, shapes_seen};
-ghost use Rattle.dex_line.specs.FrameSpelling.{Answers, IsBegun};
+ghost use Rattle.dex_line.specs.FrameSpelling.{Answers};
 ghost use Rattle.dex_line.specs.Hearing.{hear_all, hearing};
 ghost use Rattle.dex_line.specs.Judging.{judge};
 ghost use Rattle.dex_line.specs.Scanning.{kept, quieted};
 
 use super::begun::{Begun, Stage};
+use super::ended::{answer, frame};
 use super::frame::Frame;
 use arrayvec::ArrayVec;
 use block_check::Running;
@@ -57,15 +58,16 @@ impl Scanner {
         self.take(byte)
     }
 
-    #[tactic(auto, using(crate::proofs::Judged::judged, crate::proofs::Judged::grown))]
     fn take(&mut self, byte: u8) -> Option<Frame>
         ensures answer { answer_seen result ≡ judge (self.old ++ byte ∷ []) }
         ensures left { self.new ≡ kept result (self.old ++ byte ∷ []) }
     {
-        self.begun.push(byte)
+        let ended = self.begun.hear_byte(byte);
+        answer(ended, self.begun.text.as_slice())
     }
 
     /// Hears bytes up to the first answer, as one `push` after another would. Tells how many it has taken, and the answer.
+    #[inline(always)]
     pub fn hear(&mut self, bytes: &[u8]) -> (usize, Option<Frame>)
         ensures inside { result.0 ≤ length bytes.now }
         ensures heard { hear_all (hearing self.old []) (take result.0 bytes.now)
@@ -74,29 +76,11 @@ impl Scanner {
         ensures all { IsNone result.1 → result.0 ≡ length bytes.now }
         ensures left { IsSome result.1 → self.new ≡ [] }
     {
-        let mut place = 0;
-        loop {
-            place = self.take_text(bytes, place);
-            if place == bytes.len() {
-                return (place, None);
-            }
-            let answer = self.push(bytes[place]);
-            place += 1;
-            if answer.is_some() {
-                return (place, answer);
-            }
+        let (taken, ended) = self.begun.hear(bytes);
+        match ended {
+            None => (taken, None),
+            Some(ended) => (taken, Some(frame(ended, self.begun.text.as_slice()))),
         }
-    }
-
-    /// Takes at once the bytes from this place on that go on a text. Tells the place behind them.
-    fn take_text(&mut self, bytes: &[u8], place: usize) -> usize
-        requires { place ≤ length bytes.now }
-        ensures onward { place ≤ result }
-        ensures inside { result ≤ length bytes.now }
-        ensures left { self.new ≡ self.old ++ take (result - place) (drop place bytes.now) }
-        ensures begun { IsBegun self.new }
-    {
-        place + self.begun.take_text(&bytes[place..])
     }
 
     /// Hears a silence. What has begun is dropped, and is `Bad`.
@@ -104,9 +88,7 @@ impl Scanner {
         ensures answer { answer_seen result ≡ quieted self.old }
         ensures left { self.new ≡ [] }
     {
-        match self.begun.stage {
-            Stage::Idle => None,
-            _ => self.begun.give(Frame::Bad),
-        }
+        let ended = self.begun.drop_all();
+        answer(ended, self.begun.text.as_slice())
     }
 }

@@ -1,5 +1,5 @@
 use Rattle.dex_line.proofs.Many.{sound_begun}
-use Rattle.dex_line.proofs.scanner.Scanner.take_text.Goals as goal
+use Rattle.dex_line.proofs.begun.Begun.pass_text.Goals as goal
 
 pub returns-clause-begun : goal.returns-clause-begun
 returns-clause-begun c = sound_begun _ _ _ c.take_text.ensures.sound
