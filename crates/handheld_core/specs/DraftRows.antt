@@ -3,6 +3,7 @@
 use Rattle.std.specs.Prelude.{◌≡◌, ◌≤◌, ℕ, Bool, true, false, ◌==◌, nat_le, List, [], ◌∷◌, ◌++◌, length, Some, None, Result, Ok, Err, if◌then◌else◌}
 use Rattle.std.specs.List.{All}
 use Rattle.dsd_values.specs.Behind.{with_extra}
+use Rattle.dsd_values.specs.Details.{no_details}
 use Rattle.dsd_values.specs.Reading.{cents_of, cost_of, dsd_of, filled_word_of, percent_of, quantity_of, word_of}
 use Rattle.dsd_values.specs.declared.allowance.Allowance.{Allowance}
 use Rattle.dsd_values.specs.declared.extra.Extra.{Extra}
@@ -54,12 +55,8 @@ item_of dsd quantity unit upc cost = record {
   quantity = quantity;
   unit = unit;
   upc = upc;
-  qualifier = [];
-  id = [];
-  case_code = [];
+  details = no_details;
   cost = cost;
-  pack = [];
-  label = [];
   tail = [];
   extras = [];
 }

@@ -5,7 +5,7 @@ ghost use Rattle.handheld_core.specs.DraftRows.{item_in};
 
 use dsd_record::DraftFault;
 use dsd_values::{
-    Extras, Kept, Line, Word, read_cost, read_dsd, read_filled_word, read_quantity, read_word,
+    Details, Extras, Line, Tail, read_cost, read_dsd, read_filled_word, read_quantity, read_word,
 };
 use plain_lines::{PlainLine, value};
 use std::alloc::Global;
@@ -24,13 +24,9 @@ pub(crate) fn read_item(alloc: Global, line: &PlainLine<'_>) -> Result<Line, Dra
         quantity,
         unit,
         upc,
-        qualifier: Word::empty(),
-        id: Word::empty(),
-        case_code: Word::empty(),
+        details: Details::none(),
         cost,
-        pack: Word::empty(),
-        label: Word::empty(),
-        tail: Kept::empty(),
+        tail: Tail::none(),
         extras: Extras::new(alloc),
     })
 }

@@ -16,7 +16,7 @@ use crate::rows::DraftRows;
 use base_record_894::{Base, BaseHead};
 use dsd_record::{DraftFault, DraftReason};
 use dsd_values::{
-    Cents, Signature, read_cents, read_day, read_delivery_number, read_flag, read_word,
+    Cents, Lines, Signature, read_cents, read_day, read_delivery_number, read_flag, read_word,
 };
 use plain_lines::{CountedLines, PlainLine, misplaced, read_signature, refuse, value};
 use std::alloc::Global;
@@ -371,7 +371,7 @@ fn price_draft(
         ..
     } = draft;
     let (extras, lines) = rows.into_parts();
-    match Base::new(alloc, head, lines, extras, signature) {
+    match Base::new(alloc, head, without_spare(alloc, lines), extras, signature) {
         Ok(base) => finish_draft(
             done,
             Draft {
@@ -381,6 +381,16 @@ fn price_draft(
             },
         ),
         Err(_) => Err(refuse(line, DraftReason::Price)),
+    }
+}
+
+/// The same lines in just the room that they need, where there is memory to make it: drafts stay for long.
+fn without_spare(alloc: Global, lines: Lines) -> Lines
+    ensures { result ≡ lines }
+{
+    match lines.try_copy(alloc) {
+        Ok(copy) => copy,
+        Err(_) => lines,
     }
 }
 

@@ -65,7 +65,7 @@ nothing_of : (word : List ℕ) → length word ≡ 0 → word ≡ []
 nothing_of [] e = refl
 nothing_of (b ∷ more) e = absurd (omega arith)
 
-words_begin : (text : List ℕ) → (first : List ℕ) × (rest : List (List ℕ)) × (words_of text ≡ first ∷ rest)
+pub words_begin : (text : List ℕ) → (first : List ℕ) × (rest : List (List ℕ)) × (words_of text ≡ first ∷ rest)
 words_begin text = by (words_of text) (omega (arith, length-slice_split is_space text))
   where
     by : (words : List (List ℕ)) → 0 < length words → (first : List ℕ) × (rest : List (List ℕ)) × (words ≡ first ∷ rest)

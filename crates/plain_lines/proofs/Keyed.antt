@@ -1,11 +1,10 @@
 -- Things under their keys, as an index map holds them: what is found, and one more behind the others.
-use Rattle.std.proofs.Common.{◌≡◌, ◌⊎◌, ℕ, ◌+◌, ◌<◌, nat_eq, bytes_eq, Bool, true, false, List, [], ◌∷◌, ◌++◌, length, take, drop, get_or, Option, Some, if◌then◌else◌, refl, sym, ap, subst, ◌∙◌, arith, inl, inr}
+use Rattle.std.proofs.Common.{◌≡◌, ◌⊎◌, ℕ, nat_eq, bytes_eq, Bool, true, false, List, [], ◌∷◌, ◌++◌, Option, Some, if◌then◌else◌, refl, ap, subst, ◌∙◌, arith, inl, inr}
 use Rattle.std.specs.List.{All}
 use Rattle.std.specs.Map.{lookup, values_of}
 use Rattle.std.specs.Option.{is_some}
 use Rattle.std.proofs.lemmas.Bool.{cases_Bool}
 use Rattle.std.proofs.lemmas.Bool.Decides.{nat_tests}
-use Rattle.std.proofs.lemmas.List.{take-append-drop, take_more}
 use Rattle.std.proofs.lemmas.List.Elements.{All-head, All-tail}
 use Rattle.indexmap.specs.IndexMap.{insert_entry}
 use Rattle.plain_lines.specs.Keyed.{AreApartBy, is_there, keyed, under}
@@ -108,12 +107,6 @@ module _ {K X : Type 0} (eq : K → K → Bool) (turned : (a b : K) → eq a b �
   pub prefix_apart : (xs more : List X) → AreApartBy eq key (xs ++ more) → AreApartBy eq key xs
   prefix_apart [] more apart = tt
   prefix_apart (first ∷ xs) more apart = (prefix_none (key first) xs more apart.0, prefix_apart xs more apart.1)
-
-  -- one of them does not stand in front of its place
-  pub in_front : (xs : List X) (i : ℕ) (x : X) → i < length xs → x ≡ get_or xs i x → AreApartBy eq key xs → is_there eq key (key x) (take i xs) ≡ false
-  in_front xs i x inside is apart =
-      let whole : take i xs ++ x ∷ [] ≡ take (i + 1) xs = ap (λ (y : X). take i xs ++ y ∷ []) is ∙ sym (take_more xs i x inside) in
-      last_apart (take i xs) x (subst (AreApartBy eq key) (sym whole) (prefix_apart (take (i + 1) xs) (drop (i + 1) xs) (subst (AreApartBy eq key) (sym (take-append-drop (i + 1) xs)) apart)))
 
 -- ---- what is found under a key
 

@@ -1,4 +1,6 @@
 mod Cutting
+mod Ends
+mod LineFeeds
 pub mod Keyed
 pub mod Counts
 pub mod Reading

@@ -1,6 +1,7 @@
 -- Counted lines: a quantity and a cost under a line's number. The counters of a draft and the items of a count are such.
 use Rattle.std.specs.Prelude.{◌≡◌, ◌≤◌, ℕ, nat_eq, nat_le, Bool, true, List, [], ◌∷◌, ◌++◌, length, codes, Option, Result, Ok}
 use Rattle.std.specs.List.{All}
+use Rattle.dsd_values.specs.Details.{no_details}
 use Rattle.dsd_values.specs.Reading.{cost_of, dsd_of, quantity_of}
 use Rattle.dsd_values.specs.declared.cost.TheConstants.Cost.{MAX as MOST_COST}
 use Rattle.dsd_values.specs.declared.dsd_number.TheConstants.DsdNumber.{MIN as LEAST_DSD, MAX as MOST_DSD}
@@ -84,12 +85,8 @@ new_line counted = record {
   quantity = counted.quantity;
   unit = codes "EA";
   upc = [];
-  qualifier = [];
-  id = [];
-  case_code = [];
+  details = no_details;
   cost = counted.cost;
-  pack = [];
-  label = [];
   tail = [];
   extras = [];
 }

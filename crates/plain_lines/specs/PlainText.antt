@@ -61,6 +61,11 @@ text_of lines = flat_map (λ (line : List ℕ). line ++ 10 ∷ []) lines
 abbrev pub piece_of : LineSeen → ℕ → List ℕ
 piece_of line number = slice_index_or line.words number []
 
+-- where each of these words ends in a text, the first one starting at this place and a space standing behind each
+abbrev pub ends_from : ℕ → List (List ℕ) → List ℕ
+ends_from place [] = []
+ends_from place (word ∷ words) = (place + length word) ∷ ends_from (place + length word + 1) words
+
 -- `-` is the empty word
 abbrev pub unless_dash : List ℕ → List ℕ
 unless_dash word = if bytes_eq word (codes "-") then [] else word

@@ -7,7 +7,8 @@ use crate::line::PlainLine;
 use crate::refusing::value;
 use dsd_record::DraftFault;
 use dsd_values::{
-    Cost, DsdNumber, Extras, Kept, Line, Memory, Quantity, Word, read_cost, read_dsd, read_quantity,
+    Cost, Details, DsdNumber, Extras, Line, Memory, Quantity, Tail, Word, read_cost, read_dsd,
+    read_quantity,
 };
 use std::alloc::Global;
 
@@ -53,13 +54,9 @@ impl Counted {
             quantity: self.quantity,
             unit: Word::new(b"EA"),
             upc: Word::empty(),
-            qualifier: Word::empty(),
-            id: Word::empty(),
-            case_code: Word::empty(),
+            details: Details::none(),
             cost: self.cost,
-            pack: Word::empty(),
-            label: Word::empty(),
-            tail: Kept::empty(),
+            tail: Tail::none(),
             extras: Extras::new(alloc),
         }
     }

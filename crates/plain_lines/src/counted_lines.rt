@@ -1,6 +1,6 @@
 //! Counted lines under their numbers.
 
-ghost use Rattle.std.specs.Prelude.{◌≡◌, ◌<◌, [], ◌∷◌, ◌++◌, false, length, IfOk, OnOk};
+ghost use Rattle.std.specs.Prelude.{◌≡◌, ◌<◌, [], ◌∷◌, ◌++◌, false, length, OnOk};
 ghost use Rattle.dsd_values.specs.declared.limits.TheConstants.{MOST_LINES as MOST};
 ghost use Rattle.plain_lines.specs.Counting.{AreCounts, counted_under, counts_with, is_counted};
 ghost use Rattle.plain_lines.specs.Refusing.{Steps};
@@ -91,16 +91,5 @@ impl CountedLines {
         let _ = counted.cost.get();
         self.counts.insert(counted.dsd, counted)?;
         Ok(())
-    }
-
-    /// An equal list.
-    pub fn try_copy(&self, alloc: Global) -> Result<CountedLines, Memory>
-        ensures { IfOk result (λ copy. copy ≡ self.now) }
-    {
-        let mut copy = CountedLines::new(alloc);
-        for counted in self.as_slice() {
-            copy.push(*counted)?;
-        }
-        Ok(copy)
     }
 }

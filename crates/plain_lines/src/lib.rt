@@ -6,7 +6,9 @@ mod counted;
 mod counted_lines;
 mod line;
 mod lines;
+mod pieces;
 mod refusing;
+mod words;
 
 pub use counted::{Counted, read_counted};
 pub use counted_lines::CountedLines;

@@ -1,10 +1,11 @@
 //! A text as its lines.
 
-ghost use Rattle.std.specs.Prelude.{◌≡◌, ◌<◌, ◌≤◌, ◌+◌, [], ◌∷◌, length, drop, position, MatchOption};
+ghost use Rattle.std.specs.Prelude.{◌≡◌, ◌<◌, ◌≤◌, ◌+◌, [], ◌∷◌, length, drop, MatchOption};
 ghost use Rattle.std.specs.List.{position_or_len};
 ghost use Rattle.plain_lines.specs.PlainText.{is_line_feed, lines_at, lines_in};
 
 use crate::line::PlainLine;
+use memchr::memchr;
 use std::marker::Model;
 
 /// Reads a text line by line. A contract sees it as the lines that are still to come.
@@ -73,18 +74,12 @@ fn first_line<'a>(place: usize, text: &'a [u8]) -> (PlainLine<'a>, usize)
 }
 
 /// How many bytes stand in front of the first LF.
-#[tactic(auto, using(crate::proofs::Cutting::size_is, crate::proofs::Cutting::size_within))]
+#[tactic(auto, using(crate::proofs::LineFeeds::feed_is, crate::proofs::Cutting::size_within))]
 fn first_size(text: &[u8]) -> usize
     ensures first { result ≡ position_or_len is_line_feed text.now }
     ensures within { result ≤ length text.now }
 {
-    first_place(text).unwrap_or(text.len())
-}
-
-fn first_place(text: &[u8]) -> Option<usize>
-    ensures { result ≡ position is_line_feed text.now }
-{
-    text.iter().position(|&byte| byte == b'\n')
+    memchr(b'\n', text).unwrap_or(text.len())
 }
 
 /// What stands behind so many bytes.

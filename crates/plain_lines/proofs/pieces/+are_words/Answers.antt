@@ -1,6 +1,6 @@
 use Rattle.std.proofs.Common.{◌<◌, rules}
 use Rattle.plain_lines.proofs.Cutting.{one_word}
-use Rattle.plain_lines.proofs.line.+are_words.Goals as goal
+use Rattle.plain_lines.proofs.pieces.+are_words.Goals as goal
 
 pub returns-then-size-text : goal.returns-then-size-text
 returns-then-size-text t c =

@@ -1,4 +1,4 @@
-use Rattle.plain_lines.proofs.line.+are_words.Given as goal
+use Rattle.plain_lines.proofs.pieces.+are_words.Given as goal
 
 abbrev pub decreases-are_words : goal.decreases-are_words
 decreases-are_words l = l.count

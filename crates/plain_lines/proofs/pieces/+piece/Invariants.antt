@@ -1,4 +1,4 @@
-use Rattle.plain_lines.proofs.line.+piece.Given as goal
+use Rattle.plain_lines.proofs.pieces.+piece.Given as goal
 
 abbrev pub decreases-piece : goal.decreases-piece
 decreases-piece l = l.number
