@@ -7,7 +7,8 @@ use Rattle.dsd_station.specs.declared.call.Call.{Call}
 use Rattle.dsd_station.specs.Replayed.{IsFine, State, state_of}
 use Rattle.cable_world.specs.Changing.{KeepsEnd}
 use Rattle.cable_world.specs.Diligence.{ComesBy, Follows, FollowsIf}
-use Rattle.cable_world.specs.Leaving.{Begins, GoesOn, LeavesRuns, behind_if}
+use Rattle.cable_world.specs.Holding.{HoldsLast}
+use Rattle.cable_world.specs.Leaving.{Begins, GoesOn, LeavesRuns, behind_if, image_left}
 use Rattle.cable_world.specs.Living.{begins_run, is_opening}
 use Rattle.cable_world.specs.Noted.{Noted, kind_of, step_of, steps_of}
 use Rattle.cable_world.specs.Progressing.{BeginsAnew, ComesBehind, ComesIf, ComesOn, ComesTo, IsPlaying, LeavesSo, OneEnd, OpenRun, OpensNot, Progress, RunsBy, RunsFurther, begun_by, longer, progress_at}
@@ -37,6 +38,7 @@ on_kept its old new keeps = λ standing run so. (
     fine = subst (λ (c : List Call). IsFine (state_of c)) (sym keeps.calls) so.fine;
     refused = so.refused ∙ sym keeps.refused;
     leaves = subst (λ (c : List Call). LeavesSo its run (state_of c)) (sym keeps.calls) so.leaves;
+    holds = subst (λ (c : List Call). HoldsLast its.header standing (image_left (state_of c))) (sym keeps.calls) so.holds;
     plays = λ player is. subst (λ (c : List Call). IsPlaying its standing run c player) (sym keeps.calls) (so.plays player (sym keeps.player ∙ is));
   },
 )
@@ -45,7 +47,7 @@ on_kept its old new keeps = λ standing run so. (
 on_spoken : (its : OneEnd) (made : List Noted) (old seat new : SeatView) (frames : List (List ℕ)) → new ≡ with_spoken seat frames → ComesOn its old made seat → ComesOn its old made new
 on_spoken its made old seat new frames is on = subst (ComesOn its old made) (sym is) (λ standing run so.
     let (last, later, comes, there) = on standing run so in
-    (last, later, comes, record { fine = there.fine; refused = there.refused; leaves = there.leaves; plays = there.plays }))
+    (last, later, comes, record { fine = there.fine; refused = there.refused; leaves = there.leaves; holds = there.holds; plays = there.plays }))
 
 -- a step of the other end
 on_other : (its : OneEnd) (one : Noted) (seat : SeatView) → same_role its.role one.role ≡ false → ComesOn its seat (one ∷ []) seat

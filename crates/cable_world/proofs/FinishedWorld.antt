@@ -1,6 +1,8 @@
 -- A world of which the report was made is as it was played.
-use Rattle.std.proofs.Common.{◌≡◌, ℕ, List, sym, ◌∙◌, ap, subst, None}
+use Rattle.std.proofs.Common.{◌≡◌, ℕ, List, [], refl, sym, ◌∙◌, ap, subst, None}
+use Rattle.std.specs.List.{All}
 use Rattle.dsd_values.specs.declared.role.Role.{Role}
+use Rattle.base_record_894.specs.RecordText.{IsBase}
 use Rattle.dsd_values.specs.declared.role.Role.TheVariants.{Receiver, Supplier}
 use Rattle.dsd_station.specs.Logged.{Log, image_by}
 use Rattle.dsd_journal.specs.JournalImage.{Holds}
@@ -8,8 +10,10 @@ use Rattle.dsd_station.specs.Replayed.{state_of}
 use Rattle.delivery_book.specs.Books.{BookView}
 use Rattle.dsd_end.specs.Lives.{last_list}
 use Rattle.dsd_end.specs.Runs.{Run}
-use Rattle.cable_world.specs.Finishing.{Finishes, IsOver}
+use Rattle.dsd_end.proofs.Growing.{last_legal}
+use Rattle.cable_world.specs.Finishing.{Finishes, HoldsBook, IsOver}
 use Rattle.cable_world.specs.Diligence.{ComesBy}
+use Rattle.cable_world.specs.Holding.{HoldsLast}
 use Rattle.cable_world.specs.Leaving.{IsBegun}
 use Rattle.cable_world.specs.Living.{AreRunsOf, CallSo, HasNoHear, parts_of}
 use Rattle.cable_world.specs.Noted.{Noted, steps_of}
@@ -30,13 +34,15 @@ pub played_at : (stage : Stage) (world : WorldView) → stage ≡ stages.Played 
 played_at stage world is stands = subst (λ (s : Stage). StandsAt s world) is stands
 
 -- what the steps tell of an end, where script, steps and its refused sets stay
-told_left : (world left : WorldView) (role : Role) (first : Log) → left.script ≡ world.script → left.noted ≡ world.noted → refused_by left role ≡ refused_by world role → IsTold world role first → IsTold left role first
-told_left world left role first script noted refused t = record {
+told_left : (world left : WorldView) (role : Role) (first : Log) → left.script ≡ world.script → left.noted ≡ world.noted → refused_by left role ≡ refused_by world role
+    → image_by (side left.scene role).log ≡ image_by (side world.scene role).log → IsTold world role first → IsTold left role first
+told_left world left role first script noted refused image t = record {
   begun = subst (λ (s : Script). IsBegun role (header_of s role) first (steps_of left.noted)) (sym script) (subst (λ (n : List Noted). IsBegun role (header_of world.script role) first (steps_of n)) (sym noted) t.begun);
   last = t.last;
   diligent = subst (λ (s : Script). ComesBy role (chooser_of s role) (header_of s role) (state_of first.calls) None left.noted t.last) (sym script)
       (subst (λ (n : List Noted). ComesBy role (chooser_of world.script role) (header_of world.script role) (state_of first.calls) None n t.last) (sym noted) t.diligent);
   refused = t.refused ∙ sym refused;
+  holds = subst (λ (s : Script). HoldsLast (header_of s role) t.last (image_by (side left.scene role).log)) (sym script) (subst (λ (b : List ℕ). HoldsLast (header_of world.script role) t.last b) (sym image) t.holds);
 }
 
 life_left : (world left : WorldView) (role : Role) (runs : List Run) → left.script ≡ world.script → left.noted ≡ world.noted → image_by (side left.scene role).log ≡ image_by (side world.scene role).log → IsLifeIn world role runs → IsLifeIn left role runs
@@ -58,8 +64,8 @@ played_left world left script noted its those handheld_refused receiver_refused 
   obeys = subst (λ (s : Script). Obeys s.events (first_scene p.handheld p.receiver) (steps_of left.noted) p.last) (sym script)
       (subst (λ (n : List Noted). Obeys world.script.events (first_scene p.handheld p.receiver) (steps_of n) p.last) (sym noted) p.obeys);
   calls = subst (λ (n : List Noted). CallSo (steps_of n)) (sym noted) p.calls;
-  handheld_told = told_left world left Supplier p.handheld script noted handheld_refused p.handheld_told;
-  receiver_told = told_left world left Receiver p.receiver script noted receiver_refused p.receiver_told;
+  handheld_told = told_left world left Supplier p.handheld script noted handheld_refused its p.handheld_told;
+  receiver_told = told_left world left Receiver p.receiver script noted receiver_refused those p.receiver_told;
   lives = record {
     handheld = p.lives.handheld;
     receiver = p.lives.receiver;
@@ -68,6 +74,7 @@ played_left world left script noted its those handheld_refused receiver_refused 
     honest = λ free. p.lives.honest (subst (λ (s : Script). HasNoHear s.events) script free);
     agree = p.lives.agree;
   };
+  bases = subst (λ (s : Script). All IsBase (chooser_of s Supplier).drafts) (sym script) p.bases;
   handheld_image = its ∙ p.handheld_image;
   receiver_image = those ∙ p.receiver_image;
 }
@@ -82,6 +89,26 @@ pub played_stays : (report : WorldReport) (old new : Cable) (events : Events) (s
 played_stays report old new events stage later f played =
     played_left (world_at old events stage) (world_at new events later) (script_stays old new events stage later f.setting) f.noted f.handheld_image f.receiver_image
     f.handheld_refused f.receiver_refused played
+
+-- a life leaves the journal of its end, with legal entries
+book_left : (world : WorldView) (role : Role) (runs : List Run) → IsLifeIn world role runs → HoldsBook role (image_by (side world.scene role).log)
+book_left world role runs is = record {
+  header = header_of world.script role;
+  entries = last_list runs;
+  own = own role;
+  holds = is.holds;
+  legal = last_legal role [] runs tt is.life;
+}
+  where
+    own : (role : Role) → (header_of world.script role).role ≡ role
+    own Supplier = refl
+    own Receiver = refl
+
+pub handheld_book : (world : WorldView) → HasPlayed world → HoldsBook Supplier (image_by world.scene.supplier.log)
+handheld_book world played = book_left world Supplier played.lives.handheld played.lives.handheld_is
+
+pub receiver_book : (world : WorldView) → HasPlayed world → HoldsBook Receiver (image_by world.scene.receiver.log)
+receiver_book world played = book_left world Receiver played.lives.receiver played.lives.receiver_is
 
 left_with : (world : WorldView) (role : Role) (book : BookView) (image : List ℕ) → image ≡ image_by (side world.scene role).log → IsOver role image book → IsLeftWith world role book.known
 left_with world role book image same over = record {

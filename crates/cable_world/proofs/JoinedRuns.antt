@@ -151,7 +151,7 @@ module _ (one_list : OneList) (role : Role) (header : Header) where
   Going steps = (state : State) (first : List Entry) (heard : List Reception) (gone : List ℕ) → IsFine state → LeavesRuns role header first heard gone state
       → GoesOn role header state first heard gone steps → Joined first heard gone (parts_of role steps) (image_left (state_after role state steps))
 
-  going : (steps : List WorldStep) (state : State) (first : List Entry) (heard : List Reception) (gone : List ℕ) → IsFine state → LeavesRuns role header first heard gone state
+  pub going : (steps : List WorldStep) (state : State) (first : List Entry) (heard : List Reception) (gone : List ℕ) → IsFine state → LeavesRuns role header first heard gone state
       → GoesOn role header state first heard gone steps → Joined first heard gone (parts_of role steps) (image_left (state_after role state steps))
   going [] state first heard gone fine leaves on =
       let (after, held, is) = leaves (image_or state.left state.journal) (left_may state fine) in

@@ -10,13 +10,16 @@ mod RunFrames
 mod HeardWell
 mod StepsKeep
 mod EventsKeep
-mod WorldCable
-mod Recorded
-mod JoinedRuns
+pub mod WorldCable
+pub mod Recorded
+pub mod JoinedRuns
 mod ByStation
 mod Counted
-mod CutScripts
+pub mod CutScripts
 mod Partly
+mod Held
+mod Failing
+mod EndedRests
 mod PlayerPolled
 mod PlayerOpened
 mod Places
@@ -28,7 +31,7 @@ mod HandheldStepped
 mod ReceiverStepped
 mod Stepped
 mod WorldPlayed
-mod Unarmed
+pub mod Unarmed
 mod LastAlong
 mod Finished
 mod FinishedWorld

@@ -1,5 +1,5 @@
 -- An opening of an end, by what its calls tell.
-use Rattle.std.proofs.Common.{◌≡◌, ◌⊎◌, inl, inr, ℕ, Bool, false, List, [], ◌∷◌, ◌++◌, refl, sym, ◌∙◌, ap, subst, append_assoc, Option, Some, None, Result, Ok}
+use Rattle.std.proofs.Common.{◌≡◌, ◌⊎◌, inl, inr, ℕ, ◌<◌, ◌^◌, Bool, false, List, [], ◌∷◌, ◌++◌, length, refl, sym, ◌∙◌, ap, subst, append_assoc, Option, Some, None, Result, Ok, Err}
 use Rattle.std.specs.Prelude.{IfOk}
 use Rattle.dsd_values.specs.declared.role.Role.{Role}
 use Rattle.dsd_record.specs.Choices.{Chooser}
@@ -8,6 +8,7 @@ use Rattle.dsd_station.specs.declared.call.Call.TheVariants.{Attach, Size, Read,
 use Rattle.dsd_station.specs.declared.call.Outcome.{Outcome}
 use Rattle.dsd_station.specs.declared.call.Outcome.TheVariants.{Done, Failing, Stopped}
 use Rattle.dsd_station.specs.ByPlan.{EachAnswered}
+use Rattle.dsd_station.specs.Causes.{Rose}
 use Rattle.dsd_station.specs.Logged.{IsPlayed, Log, told_by}
 use Rattle.dsd_station.specs.Plans.{after_restart}
 use Rattle.dsd_station.specs.Replayed.{State, restarted, state_of, step}
@@ -16,6 +17,8 @@ use Rattle.dsd_journal.specs.Devices.{AreReads, since}
 use Rattle.dsd_journal.specs.Journals.{Rests}
 use Rattle.dsd_journal.specs.declared.entry.Entry.{Entry}
 use Rattle.dsd_journal.specs.declared.opening.OpenFault.{OpenFault}
+use Rattle.dsd_journal.specs.declared.opening.OpenFault.TheVariants.{Memory, Station}
+use Rattle.delivery_book.specs.BookImages.{IsBookRefused}
 use Rattle.dsd_end.specs.Standings.{Standing}
 use Rattle.cable_world.specs.Leaving.{AreUnwriting}
 use Rattle.cable_world.specs.Living.{AreCallsOf}
@@ -25,6 +28,7 @@ use Rattle.cable_world.specs.SeatOpens.{IsFirst, PlayerOpens}
 use Rattle.cable_world.specs.SeatSteps.{Grows}
 use Rattle.cable_world.specs.Steps.{Opening}
 use Rattle.cable_world.proofs.ByStation.{part_answered}
+use Rattle.cable_world.proofs.Failing.{counts_so, tells_opening}
 use Rattle.cable_world.proofs.Partly.{log_grown, rests_bare, runs_bare}
 use Rattle.cable_world.proofs.PlayerPolled.{if_ok}
 
@@ -99,8 +103,9 @@ first_so role chooser player mid after o = record {
 }
 
 pub player_opened : (role : Role) (chooser : Chooser) (result : Result PlayerView OpenFault) (before mid after : Log) → mid ≡ after_restart before → HasOpened role chooser result (told_by mid) (told_by after)
-    → IsPlayed mid → IsPlayed after → before.starved ≡ false → after.starved ≡ false → PlayerOpens role chooser result before after
-player_opened role chooser result before mid after is o was now not none =
+    → IsPlayed mid → IsPlayed after → before.starved ≡ false → after.starved ≡ false → length after.calls < 2 ^ 63 → (result ≡ Err Station → Rose mid.faults after.faults) → (result ≡ Err Memory → ⊥)
+    → PlayerOpens role chooser result before after
+player_opened role chooser result before mid after is o was now not none short cause wanted =
     let first : List Call = o.opens.calls.first in
     let reads : List Call = o.opens.calls.reads in
     let syncs : IsSyncAtMost first = row_syncs o.opens.calls.went first o.opens.calls.sync in
@@ -111,6 +116,8 @@ player_opened role chooser result before mid after is o was now not none =
       answers = subst (λ (l : Log). EachAnswered l.plan l.calls (first ++ reads)) is (part_answered mid after (first ++ reads) now o.opens.keeps.plan was.since o.opens.calls.calls);
       calls = calls_open first reads syncs o.opens.calls.each;
       unwriting = (tt, tt, opens_unwriting (step (state_of before.calls) Restart) first reads (restart_left (state_of before.calls)) syncs o.opens.calls.each);
+      tells = tells_opening role result mid after (first ++ reads) (counts_so mid after (first ++ reads) was now unstarved none short o.opens.calls.calls) o.opens.calls.calls o.unfailed cause wanted (state_of after.calls).journal
+          (λ place refused. subst (λ (image : List ℕ). IsBookRefused role image place) (sym o.opens.journal) (o.refused place refused));
       ok = if_ok result (λ player. IsFirst role chooser player (after_restart before).calls after.calls)
           (λ player ok. subst (λ (l : Log). IsFirst role chooser player l.calls after.calls) is (first_so role chooser player mid after (opened_by role chooser result player mid after ok o.ok)));
     }

@@ -9,18 +9,23 @@ use Rattle.dsd_record.specs.Choices.{Chooser}
 use Rattle.dsd_station.specs.declared.call.Call.{Call}
 use Rattle.dsd_station.specs.declared.call.Call.TheVariants.{Attach, Size, Read, Write, Sync, Listen, Speak, Restart}
 use Rattle.dsd_station.specs.declared.call.Reception.{Reception}
+use Rattle.dsd_station.specs.Failures.{failed_in}
 use Rattle.dsd_station.specs.Heard.{answers_in, said_in}
-use Rattle.dsd_station.specs.Logged.{Log}
+use Rattle.dsd_station.specs.Logged.{Log, image_by}
 use Rattle.dsd_station.specs.Plans.{after_restart}
 use Rattle.dsd_station.specs.Replayed.{IsFine, State, replay, state_of}
 use Rattle.dsd_journal.specs.JournalImage.{Holds}
 use Rattle.dsd_journal.specs.declared.entry.Entry.{Entry}
 use Rattle.dsd_journal.specs.declared.header.Header.{Header}
 use Rattle.dsd_journal.specs.declared.opening.OpenFault.{OpenFault}
+use Rattle.dsd_journal.specs.declared.opening.OpenFault.TheVariants as opens
+use Rattle.delivery_book.specs.Signing.{Legal}
+use Rattle.delivery_book.proofs.Refusing.{never_both}
 use Rattle.dsd_end.specs.Lives.{IsRun}
 use Rattle.dsd_end.specs.RunSoFar.{LeavesRun, Runs}
 use Rattle.dsd_end.specs.Standings.{Standing, first_standing}
 use Rattle.cable_world.specs.Diligence.{Follows, PollsFrom, PollsTo}
+use Rattle.cable_world.specs.Faulting.{HasFailed, TellsOpening}
 use Rattle.cable_world.specs.Leaving.{AreUnwriting, LeavesRuns, recorded, run_to}
 use Rattle.cable_world.specs.Living.{AreCallsOf, begins_run, is_opening}
 use Rattle.cable_world.specs.Noted.{Noted, kind_of, runs_by, step_of}
@@ -32,6 +37,7 @@ use Rattle.cable_world.specs.Seats.{SeatView}
 use Rattle.cable_world.specs.Steps.{Opening, Poll, StepKind, same_role}
 use Rattle.cable_world.specs.declared.answer.Answer.{Answer}
 use Rattle.cable_world.specs.declared.answer.Answer.TheVariants.{Broken, Ended, NotOpened, Opened, Running}
+use Rattle.cable_world.proofs.Held.{held_at_rest}
 use Rattle.cable_world.proofs.JoinedRuns.{MayLeaveAt, failed_so, read_before, replay_more, still, still_fine}
 use Rattle.cable_world.proofs.Partly.{gone_grown, heard_grown}
 use Rattle.cable_world.proofs.Taking.{all_played_calls}
@@ -126,6 +132,7 @@ module _ (its : OneEnd) (of_role : its.header.role ≡ its.role) (answer : Answe
       fine = p.polls.fine;
       refused = sym p.refused;
       leaves = leaves_on;
+      holds = λ fine. subst (λ (h : Header). Holds h p.last.standing.desk.entries (image_by new.log)) goes_on.header (p.polls.holds fine);
       plays = λ player is. go (runs_by answer) player (sym p.now ∙ is);
     }
       where
@@ -142,6 +149,20 @@ module _ (its : OneEnd) (of_role : its.header.role ≡ its.role) (answer : Answe
 held_so : (its : OneEnd) (run : Option OpenRun) (state : State) (image : List ℕ) → LeavesSo its run state → MayLeaveAt state image → (entries : List Entry) × Holds its.header entries image
 held_so its None state image leaves may = ([], leaves image may)
 held_so its (Some run) state image leaves may = let (entries, held, is) = leaves image may in (entries, held)
+
+-- the image holds a book of this end
+abbrev HoldsBook : OneEnd → List ℕ → Type 0
+HoldsBook its image = (entries : List Entry) × Holds its.header entries image × (its.header.role ≡ its.role) × Legal its.role entries
+
+book_held : (its : OneEnd) (run : Option OpenRun) (state : State) (image : List ℕ) → its.header.role ≡ its.role → LeavesSo its run state → MayLeaveAt state image → HoldsBook its image
+book_held its None state image role leaves may = ([], leaves image may, role, tt)
+book_held its (Some run) state image role leaves may = let (entries, held, is) = leaves image may in (entries, held, role, is.legal)
+
+-- so an opening over it is refused behind a failed call alone
+refused_so : (its : OneEnd) (fault : OpenFault) (part : List Call) (journal : List ℕ) → TellsOpening its.role (Err fault) part journal → HoldsBook its journal → (let none : Option Standing = None in none ≡ None) × (fault ≡ opens.Station) × HasFailed part
+refused_so its opens.Station part journal tells book = (refl, refl, tells)
+refused_so its (opens.NotAJournal place) part journal tells (entries, held, role, legal) = absurd (never_both its.role journal its.header entries place held role legal tells)
+refused_so its opens.Memory part journal tells book = absurd tells
 
 silent_opening : (calls : List Call) → AreCallsOf Opening calls → said_in calls ≡ []
 silent_opening [] are = refl
@@ -162,7 +183,7 @@ module _ (one_list : OneList) (its : OneEnd) (of_role : its.header.role ≡ its.
   fine_behind : IsFine (state_of old.log.calls) → IsFine (state_of new.log.calls)
   fine_behind fine = subst IsFine (sym state_is) (still_fine (state_of old.log.calls) (Restart ∷ part) fine unwriting)
 
-  module _ (player : PlayerView) (first : IsFirst its.role its.chooser player (after_restart old.log).calls new.log.calls) (now : new.player ≡ Some player) where
+  module _ (player : PlayerView) (first : IsFirst its.role its.chooser player (after_restart old.log).calls new.log.calls) (fine : failed_in part ≡ 0) (now : new.player ≡ Some player) where
     abbrev opened : Noted
     opened = record { role = its.role; answer = Opened; part = part }
 
@@ -188,6 +209,12 @@ module _ (one_list : OneList) (its : OneEnd) (of_role : its.header.role ≡ its.
       runs = first.runs;
     }
 
+    holds_first : player.book.header ≡ its.header → IsFine (state_of new.log.calls) → Holds its.header player.standing.desk.entries (image_by new.log)
+    holds_first header fine =
+        let held : Holds player.book.header player.book.entries (image_by new.log) = held_at_rest player.book.header player.book.entries new.log.calls fine (record { holds = first.holds; synced = first.pollable.rests.synced }) in
+        subst (λ (h : Header). Holds h player.standing.desk.entries (image_by new.log)) header
+        (subst (λ (l : List Entry). Holds player.book.header l (image_by new.log)) (sym (ap (λ (s : Standing). s.desk.entries) first.standing)) held)
+
     on_opened : ComesOn its old (opened ∷ []) new
     on_opened = λ standing run so.
         let header : player.book.header ≡ its.header = header_of run so.fine so.leaves in
@@ -198,7 +225,7 @@ module _ (one_list : OneList) (its : OneEnd) (of_role : its.header.role ≡ its.
           Some begun,
           own_step its opened (progress_at old standing run) (progress_at new (Some player.standing) (Some begun)) refl (record {
             state = state_is;
-            follows = (player.book.entries, holds, ap (λ (s : Standing). Some s) (first.standing ∙ ap (λ (h : Header). first_standing h player.book.entries) header));
+            follows = (player.book.entries, holds, ap (λ (s : Standing). Some s) (first.standing ∙ ap (λ (h : Header). first_standing h player.book.entries) header), fine);
             runs = record {
               first = player.book.entries;
               begins = (unwriting, subst (λ (x : State). Holds its.header player.book.entries x.journal) state_is holds, subst (λ (x : State). LeavesRuns its.role its.header player.book.entries begun.heard begun.gone x) state_is leaves);
@@ -209,11 +236,12 @@ module _ (one_list : OneList) (its : OneEnd) (of_role : its.header.role ≡ its.
             fine = fine_behind so.fine;
             refused = ap (λ (s : Standing). s.desk.refused) first.standing ∙ sym refused;
             leaves = leaves;
+            holds = λ fine. holds_first header (fine_behind so.fine);
             plays = λ other is. subst (λ (x : PlayerView). IsPlaying its (Some player.standing) (Some begun) new.log.calls x) (same_player player other (sym now ∙ is)) plays;
           },
         )
 
-  module _ (fault : OpenFault) (calls : AreCallsOf Opening part) (now : new.player ≡ None) where
+  module _ (fault : OpenFault) (calls : AreCallsOf Opening part) (tells : TellsOpening its.role (Err fault) part (state_of new.log.calls).journal) (now : new.player ≡ None) where
     abbrev refusal : Noted
     refusal = record { role = its.role; answer = NotOpened fault; part = part }
 
@@ -223,27 +251,34 @@ module _ (one_list : OneList) (its : OneEnd) (of_role : its.header.role ≡ its.
         subst (λ (x : State). LeavesRuns its.role its.header run.first (run.heard ++ answers_in part) (run.gone ++ said_in part) x) (sym state_is)
         (failed_so one_list its.role its.header run.first run.heard run.gone (state_of old.log.calls) (step_of refusal) fine leaves unwriting (silent_opening part calls))
 
+    -- what the journal holds is a book of this end
+    legal_held : (standing : Option Standing) (run : Option OpenRun) → StandsSo its standing run old → HoldsBook its (state_of new.log.calls).journal
+    legal_held standing run so =
+        subst (λ (x : State). HoldsBook its x.journal) (sym state_is)
+        (book_held its run (state_of old.log.calls) _ of_role so.leaves (read_before (state_of old.log.calls) (Restart ∷ part) so.fine unwriting))
+
     on_failed : ComesOn its old (refusal ∷ []) new
     on_failed = λ standing run so. (
       None,
       option_map (longer part) run,
       own_step its refusal (progress_at old standing run) (progress_at new None (option_map (longer part) run)) refl
-          (record { state = state_is; follows = refl; runs = record { unwriting = unwriting; silent = silent_opening part calls; run = refl } }),
-      record { fine = fine_behind so.fine; refused = sym refused; leaves = leaves_still run so.fine so.leaves; plays = λ player is. absurd (none_is player (sym now ∙ is)) },
+          (record { state = state_is; follows = refused_so its fault part (state_of new.log.calls).journal tells (legal_held standing run so); runs = record { unwriting = unwriting; silent = silent_opening part calls; run = refl } }),
+      record { fine = fine_behind so.fine; refused = sym refused; leaves = leaves_still run so.fine so.leaves; holds = tt; plays = λ player is. absurd (none_is player (sym now ∙ is)) },
     )
 
 pub on_opening : (one_list : OneList) (its : OneEnd) (role : Role) (chooser : Chooser) → its.header.role ≡ its.role → its.role ≡ role → its.chooser ≡ chooser → (answer : Answer) (old new : SeatView) (s : SeatStarts role chooser answer old new)
     → ComesOn its old (record { role = its.role; answer = answer; part = s.opens.part } ∷ []) new
 on_opening one_list its role chooser of_role role_is chooser_is answer old new s =
-    subst (λ (a : Answer). ComesOn its old (record { role = its.role; answer = a; part = s.opens.part } ∷ []) new) (sym s.answer_is) (go s.opened s.now s.opens.ok)
+    subst (λ (a : Answer). ComesOn its old (record { role = its.role; answer = a; part = s.opens.part } ∷ []) new) (sym s.answer_is)
+    (go s.opened s.now s.opens.ok (subst (λ (x : Role). TellsOpening x s.opened s.opens.part (state_of new.log.calls).journal) (sym role_is) s.opens.tells))
   where
     grown : new.log.calls ≡ (old.log.calls ++ Restart ∷ []) ++ s.opens.part
     grown = ap (λ (l : Log). l.calls) s.opens.log ∙ all_played_calls (after_restart old.log) s.opens.part
 
     go : (opened : Result PlayerView OpenFault) → new.player ≡ player_in opened → IfOk opened (λ (player : PlayerView). IsFirst role chooser player (after_restart old.log).calls new.log.calls)
-        → ComesOn its old (record { role = its.role; answer = opening_answer opened; part = s.opens.part } ∷ []) new
-    go (Ok player) now first =
+        → TellsOpening its.role opened s.opens.part (state_of new.log.calls).journal → ComesOn its old (record { role = its.role; answer = opening_answer opened; part = s.opens.part } ∷ []) new
+    go (Ok player) now first tells =
         on_opened one_list its of_role old new s.opens.part grown s.opens.unwriting s.refused player
         (subst (λ (x : Role). IsFirst x its.chooser player (after_restart old.log).calls new.log.calls) (sym role_is)
-        (subst (λ (x : Chooser). IsFirst role x player (after_restart old.log).calls new.log.calls) (sym chooser_is) first)) now
-    go (Err fault) now first = on_failed one_list its of_role old new s.opens.part grown s.opens.unwriting s.refused fault s.opens.calls now
+        (subst (λ (x : Chooser). IsFirst role x player (after_restart old.log).calls new.log.calls) (sym chooser_is) first)) tells now
+    go (Err fault) now first tells = on_failed one_list its of_role old new s.opens.part grown s.opens.unwriting s.refused fault s.opens.calls tells now

@@ -12,7 +12,7 @@ use Rattle.dsd_station.specs.declared.call.Call.TheVariants.{Attach, Size, Read,
 use Rattle.dsd_station.specs.ByPlan.{EachAnswered, answered, counted_in, fail_off, is_counted, outcome_by, outcome_from, still_off, stop_at, stop_off, unless_stopped}
 use Rattle.dsd_station.specs.Causes.{Rose}
 use Rattle.dsd_station.specs.Failures.{failed_in, has_failed, is_failing, is_refused}
-use Rattle.dsd_station.specs.Logged.{IsPlayed, Log, image_by}
+use Rattle.dsd_station.specs.Logged.{IsPlayed, Log, image_by, told_by}
 use Rattle.dsd_station.specs.Planned.{Plan}
 use Rattle.dsd_station.specs.Plans.{after_restart, disarmed}
 use Rattle.dsd_station.specs.Replayed.{State, image_or, restarted, state_of, step}
@@ -21,8 +21,13 @@ use Rattle.dsd_station.proofs.Tying.{state_push}
 use Rattle.std.specs.Prelude.{IfOk}
 use Rattle.dsd_values.specs.declared.fault.Memory.{Memory}
 use Rattle.dsd_values.specs.declared.role.Role.{Role}
+use Rattle.dsd_journal.specs.JournalImage.{Holds}
+use Rattle.dsd_journal.specs.declared.entry.Entry.{Entry}
+use Rattle.dsd_journal.specs.declared.header.Header.{Header}
+use Rattle.delivery_book.specs.BookImages.{IsBookRefused}
 use Rattle.delivery_book.specs.Books.{BookView}
-use Rattle.cable_world.specs.Finishing.{IsOver, IsUnarmed}
+use Rattle.delivery_book.specs.Signing.{Legal}
+use Rattle.cable_world.specs.Finishing.{HoldsBook, IsOver, IsUnarmed}
 use Rattle.cable_world.proofs.ByStation.{part_answered}
 
 -- ---- a restart
@@ -41,7 +46,7 @@ behind_restart log = state_push log.calls (log.calls ++ Restart ∷ []) Restart 
 image_restarted : (log : Log) → image_by (after_restart log) ≡ image_by log
 image_restarted log = ap (λ (s : State). image_or s.left s.journal) (behind_restart log) ∙ restarted_image (state_of log.calls) (state_of log.calls).left refl
 
-left_restarted : (log : Log) → (state_of (after_restart log).calls).left ≡ None
+pub left_restarted : (log : Log) → (state_of (after_restart log).calls).left ≡ None
 left_restarted log = ap (λ (s : State). s.left) (behind_restart log) ∙ restarted_left (state_of log.calls) (state_of log.calls).left refl
 
 -- ---- what has fallen stays so
@@ -55,11 +60,11 @@ counted_behind zero calls more = counted_before calls more
 counted_behind (suc at) [] more = omega arith
 counted_behind (suc at) (call ∷ calls) more = counted_behind at calls more
 
-fail_stays : (armed : Option ArmedFail) (calls more : List Call) → fail_off armed calls ≡ 0 → fail_off armed (calls ++ more) ≡ 0
+pub fail_stays : (armed : Option ArmedFail) (calls more : List Call) → fail_off armed calls ≡ 0 → fail_off armed (calls ++ more) ≡ 0
 fail_stays None calls more off = refl
 fail_stays (Some armed) calls more off = let h = counted_behind armed.at calls more in omega (arith, h, off)
 
-stop_stays : (armed : Option ArmedStop) (calls more : List Call) → stop_off armed calls ≡ 0 → stop_off armed (calls ++ more) ≡ 0
+pub stop_stays : (armed : Option ArmedStop) (calls more : List Call) → stop_off armed calls ≡ 0 → stop_off armed (calls ++ more) ≡ 0
 stop_stays None calls more off = refl
 stop_stays (Some armed) calls more off = let h = counted_behind armed.at calls more in omega (arith, h, off)
 
@@ -123,7 +128,7 @@ answer_fine plan calls (Listen answer) works failure stop = is_answered calls _ 
 answer_fine plan calls (Speak bytes outcome) works failure stop = ap is_failing (goes_well plan calls works failure stop)
 answer_fine plan calls Restart works failure stop = refl
 
-outcome_left : (s : State) (call : Call) → has_failed call ≡ false → s.left ≡ None → (step s call).left ≡ None
+pub outcome_left : (s : State) (call : Call) → has_failed call ≡ false → s.left ≡ None → (step s call).left ≡ None
 outcome_left s (Attach journal port (Ok done)) fine none = none
 outcome_left s (Attach journal port (Err failed)) fine none = none
 outcome_left s (Size answer) fine none = none
@@ -156,7 +161,7 @@ fine_first before call part fine rest = record {
   works = subst (λ (l : List Call). (state_of l).left ≡ None) (append_assoc before (call ∷ []) part) rest.works;
 }
 
-all_fine : (plan : Plan) (before part : List Call) → (state_of before).left ≡ None → fail_off plan.failure before ≡ 0 → stop_off plan.stop before ≡ 0 → EachAnswered plan before part → AreFine before part
+pub all_fine : (plan : Plan) (before part : List Call) → (state_of before).left ≡ None → fail_off plan.failure before ≡ 0 → stop_off plan.stop before ≡ 0 → EachAnswered plan before part → AreFine before part
 all_fine plan before [] works failure stop each = record { none = refl; works = subst (λ (l : List Call). (state_of l).left ≡ None) (sym (append-nil before)) works }
 all_fine plan before (call ∷ part) works failure stop each =
     let fine : has_failed call ≡ false = ap has_failed each.0 ∙ answer_fine plan before call works failure stop in
@@ -169,7 +174,7 @@ unarmed_fine log part is each = all_fine log.plan log.calls part is.works is.fai
 
 -- ---- so a fault is want of memory
 
-failed_joined : (a b : List Call) → failed_in (a ++ b) ≡ failed_in a + failed_in b
+pub failed_joined : (a b : List Call) → failed_in (a ++ b) ≡ failed_in a + failed_in b
 failed_joined [] b = omega arith
 failed_joined (call ∷ a) b = let h = failed_joined a b in omega (arith, h)
 
@@ -198,3 +203,16 @@ pub image_kept : (before after : Log) (part : List Call) → IsUnarmed before �
     → image_by after ≡ image_by before
 image_kept before after part is fine calls journal =
     image_is_journal after (subst (λ (l : List Call). (state_of l).left ≡ None) (sym calls) fine.works) ∙ journal ∙ sym (image_is_journal before is.works)
+
+-- ---- the book over it
+
+pub book_still : (role : Role) (log next : Log) → next ≡ after_restart (disarmed log) → HoldsBook role (image_by log) → HoldsBook role (image_by next)
+book_still role log next is book = subst (HoldsBook role) (sym (ap image_by is ∙ image_restarted (disarmed log))) book
+
+-- what holds the journal of an end with legal entries is not refused
+abbrev IsNeverBoth : Type 0
+IsNeverBoth = (role : Role) (image : List ℕ) (header : Header) (entries : List Entry) (place : ℕ) → Holds header entries image → header.role ≡ role → Legal role entries → IsBookRefused role image place → ⊥
+
+pub never_refused : IsNeverBoth → (role : Role) (log : Log) → IsUnarmed log → HoldsBook role (image_by log) → (place : ℕ) → IsBookRefused role (told_by log).journal place → ⊥
+never_refused never role log is book place refused =
+    never role (state_of log.calls).journal book.header book.entries place (subst (Holds book.header book.entries) (image_is_journal log is.works) book.holds) book.own book.legal refused

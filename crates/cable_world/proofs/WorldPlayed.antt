@@ -1,9 +1,12 @@
 -- A world that has played its events.
 use Rattle.std.proofs.Common.{◌≡◌, true, false, List, ◌++◌, refl, sym, ◌∙◌, ap, subst, is_some, Option, None}
+use Rattle.std.specs.List.{All}
 use Rattle.dsd_values.specs.declared.role.Role.{Role}
+use Rattle.base_record_894.specs.RecordText.{IsBase}
+use Rattle.handheld_core.specs.Choosing.{supplier}
 use Rattle.dsd_values.specs.declared.role.Role.TheVariants.{Receiver, Supplier}
 use Rattle.dsd_record.specs.Choices.{Chooser}
-use Rattle.dsd_station.specs.Logged.{Log}
+use Rattle.dsd_station.specs.Logged.{Log, image_by}
 use Rattle.dsd_station.specs.Planned.{Plan, no_plan}
 use Rattle.dsd_station.specs.Replayed.{IsFine, State, state_of}
 use Rattle.dsd_journal.specs.JournalImage.{Holds}
@@ -14,6 +17,7 @@ use Rattle.dsd_end.proofs.Agreeing.{agree}
 use Rattle.cable_world.specs.Cables.{cable_of, scene_of, seat}
 use Rattle.cable_world.specs.CableSteps.{Goes, IsEndOf, IsOpen}
 use Rattle.cable_world.specs.Diligence.{ComesBy}
+use Rattle.cable_world.specs.Holding.{HoldsLast}
 use Rattle.cable_world.specs.Leaving.{Begins, IsBegun, IsLifeOf, LeavesNothing, image_left, state_after}
 use Rattle.cable_world.specs.Living.{CallSo}
 use Rattle.cable_world.specs.Noted.{Noted, steps_of}
@@ -55,6 +59,7 @@ stands_first its seat log is off zero formatted = record {
   fine = subst (λ (l : Log). IsFine (state_of l.calls)) (sym is) formatted.fine;
   refused = sym zero;
   leaves = subst (λ (l : Log). LeavesNothing its.header (state_of l.calls)) (sym is) formatted.nothing;
+  holds = tt;
   plays = λ player runs. absurd (differ (sym off ∙ ap (λ (p : Option PlayerView). is_some p) runs));
 }
   where
@@ -62,8 +67,8 @@ stands_first its seat log is off zero formatted = record {
     differ e = cc
 
 told_so : (its : OneEnd) (world : WorldView) (seat now : SeatView) (log : Log) → its.header ≡ header_of world.script its.role → its.chooser ≡ chooser_of world.script its.role → seat.log ≡ log → is_some seat.player ≡ false
-    → seat.refused ≡ 0 → IsFormatted its.header log → ComesOn its seat world.noted now → now.refused ≡ refused_by world its.role → IsTold world its.role log
-told_so its world seat now log header chooser is off zero formatted on refused =
+    → seat.refused ≡ 0 → IsFormatted its.header log → ComesOn its seat world.noted now → now.refused ≡ refused_by world its.role → now.log ≡ (side world.scene its.role).log → IsTold world its.role log
+told_so its world seat now log header chooser is off zero formatted on refused at =
     let (last, later, comes, there) = on None None (stands_first its seat log is off zero formatted) in
     let begins : Begins its.role its.header (state_of log.calls) (steps_of world.noted) = subst (λ (l : Log). Begins its.role its.header (state_of l.calls) (steps_of world.noted)) is (begins_by its world.noted (progress_at seat None None) (progress_at now last later) refl comes) in
     record {
@@ -73,6 +78,7 @@ told_so its world seat now log header chooser is off zero formatted on refused =
           (subst (λ (h : Header). ComesBy its.role its.chooser h (state_of log.calls) None world.noted last) header
           (subst (λ (l : Log). ComesBy its.role its.chooser its.header (state_of l.calls) None world.noted last) is (diligent_by its world.noted (progress_at seat None None) (progress_at now last later) comes)));
       refused = there.refused ∙ refused;
+      holds = subst (λ (h : Header). HoldsLast h last (image_by (side world.scene its.role).log)) header (subst (λ (l : Log). HoldsLast its.header last (image_by l)) at there.holds);
     }
 
 -- ---- two lives
@@ -101,8 +107,8 @@ two_lives one_list world handheld receiver obeys calls none nothing its those =
 
 -- ---- all events were played
 
-pub has_played : OneList → (world : Inside) (new : Cable) → IsWorld world → world.stage ≡ stages.New → Goes (Obeys world.events) world.cable new → HasPlayed (world_of (record { cable = new; events = world.events; stage = stages.Played }))
-has_played one_list world new is stage g =
+pub has_played : OneList → (world : Inside) (new : Cable) → All IsBase (supplier world.cable.setting.drafts).drafts → IsWorld world → world.stage ≡ stages.New → Goes (Obeys world.events) world.cable new → HasPlayed (world_of (record { cable = new; events = world.events; stage = stages.Played }))
+has_played one_list world new bases is stage g =
     let start : IsNew (world_of world) = is_new world is stage in
     let old : Cable = world.cable in
     let played : WorldView = world_of (record { cable = new; events = world.events; stage = stages.Played }) in
@@ -115,10 +121,10 @@ has_played one_list world new is stage g =
     let on : (its : OneEnd) → IsEndOf old its → ComesOn its (seat (cable_of old) its.role) (cable_of new).noted (seat (cable_of new) its.role) = λ its ends. subst (λ (l : List Noted). ComesOn its (seat (cable_of old) its.role) l (seat (cable_of new) its.role)) (sym noted) (g.comes one_list its ends) in
     let handheld_told : IsTold played Supplier start.handheld = told_so (record { role = Supplier; header = header_of played.script Supplier; chooser = chooser_at new.setting Supplier }) played old.handheld new.handheld start.handheld refl refl
     (ap (λ (s : Scene). s.supplier.log) start.scene) (ap (λ (s : Scene). s.supplier.runs) start.scene) start.handheld_refused handheld_is
-    (on (record { role = Supplier; header = header_of played.script Supplier; chooser = chooser_at new.setting Supplier }) (record { role = refl; chooser = ap (λ (s : Setting). chooser_at s Supplier) g.setting })) refl in
+    (on (record { role = Supplier; header = header_of played.script Supplier; chooser = chooser_at new.setting Supplier }) (record { role = refl; chooser = ap (λ (s : Setting). chooser_at s Supplier) g.setting })) refl refl in
     let receiver_told : IsTold played Receiver start.receiver = told_so (record { role = Receiver; header = header_of played.script Receiver; chooser = chooser_at new.setting Receiver }) played old.receiver new.receiver start.receiver refl refl
     (ap (λ (s : Scene). s.receiver.log) start.scene) (ap (λ (s : Scene). s.receiver.runs) start.scene) start.receiver_refused receiver_is
-    (on (record { role = Receiver; header = header_of played.script Receiver; chooser = chooser_at new.setting Receiver }) (record { role = refl; chooser = ap (λ (s : Setting). chooser_at s Receiver) g.setting })) refl in
+    (on (record { role = Receiver; header = header_of played.script Receiver; chooser = chooser_at new.setting Receiver }) (record { role = refl; chooser = ap (λ (s : Setting). chooser_at s Receiver) g.setting })) refl refl in
     record {
       handheld = start.handheld;
       receiver = start.receiver;
@@ -130,6 +136,7 @@ has_played one_list world new is stage g =
       handheld_told = handheld_told;
       receiver_told = receiver_told;
       lives = two_lives one_list played start.handheld start.receiver obeys calls handheld_is.plan receiver_is.plan handheld_told receiver_told;
+      bases = subst (λ (s : Setting). All IsBase (supplier s.drafts).drafts) (sym g.setting) bases;
       handheld_image = refl;
       receiver_image = refl;
     }

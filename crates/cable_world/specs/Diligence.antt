@@ -4,10 +4,12 @@ use Rattle.dsd_values.specs.declared.role.Role.{Role}
 use Rattle.dsd_record.specs.Choices.{Chooser}
 use Rattle.dsd_station.specs.declared.call.Call.{Call}
 use Rattle.dsd_station.specs.declared.call.Reception.{Reception}
+use Rattle.dsd_station.specs.Failures.{failed_in}
 use Rattle.dsd_station.specs.Heard.{answers_in, said_in}
 use Rattle.dsd_station.specs.Replayed.{State}
 use Rattle.dsd_journal.specs.declared.entry.Entry.{Entry}
 use Rattle.dsd_journal.specs.declared.header.Header.{Header}
+use Rattle.dsd_journal.specs.declared.opening.OpenFault.TheVariants as opens
 use Rattle.dsd_journal.specs.JournalImage.{Holds}
 use Rattle.dsd_end.specs.declared.end.Turn.{Turn}
 use Rattle.dsd_end.specs.declared.end.Turn.TheVariants as turns
@@ -19,24 +21,27 @@ use Rattle.dsd_end.specs.PollStep.{Done, Next, bytes_of}
 use Rattle.dsd_end.specs.Polls.{with_flags}
 use Rattle.dsd_end.specs.PollsHeard.{receptions_of}
 use Rattle.dsd_end.specs.Standings.{Standing, first_standing}
+use Rattle.cable_world.specs.Faulting.{FindsFull, HasFailed}
 use Rattle.cable_world.specs.Leaving.{behind_if, state_behind}
 use Rattle.cable_world.specs.Noted.{Noted, step_of}
 use Rattle.cable_world.specs.Steps.{same_role}
 use Rattle.cable_world.specs.declared.answer.Answer.{Answer}
 use Rattle.cable_world.specs.declared.answer.Answer.TheVariants.{Broken, Ended, NotOpened, Opened, Running}
 
--- With these calls a poll from this standing has done so: it is one step, over what its listen heard, if it listened.
+-- With these calls, none of which failed, a poll from this standing has done so: it is one step, over what its listen heard, if it listened.
 pub record Steps (chooser : Chooser) (standing : Standing) (part : List Call) (done : Done) : Type 0 where
   pub heard : Option Reception
   pub next : Next chooser standing heard done
   pub listened : answers_in part ≡ receptions_of (heard ∷ [])
   pub said : said_in part ≡ bytes_of done
+  pub fine : failed_in part ≡ 0
 
--- what a poll with a fault leaves: noise is answered behind a step, of the others nothing is said
+-- What a poll with a fault tells: noise is answered behind a step, a fault of the station behind a call that failed, and a full journal where the next entry
+-- of an own turn has no room.
 abbrev pub Breaks : EndFault → Chooser → Standing → List Call → Standing → Type 0
 Breaks (ends.Noise count) chooser standing part last = IsNoise last count × ((done : Done) × Steps chooser standing part done × (done.standing ≡ with_flags last false false))
-Breaks ends.Station chooser standing part last = Unit {0}
-Breaks (ends.Full length) chooser standing part last = Unit {0}
+Breaks ends.Station chooser standing part last = HasFailed part
+Breaks (ends.Full length) chooser standing part last = FindsFull chooser standing part length
 Breaks ends.Failed chooser standing part last = ⊥
 Breaks ends.Memory chooser standing part last = ⊥
 
@@ -54,10 +59,11 @@ PollsTo (Broken fault) chooser standing part last = Breaks fault chooser standin
 abbrev pub PollsFrom : Answer → Chooser → List Call → Option Standing → Option Standing → Type 0
 PollsFrom answer chooser part before after = (standing : Standing) × (last : Standing) × (before ≡ Some standing) × PollsTo answer chooser standing part last × (after ≡ Some last)
 
--- What a step does to the standing of its end, which has none before it was opened. The journal behind the step is the third argument.
+-- What a step does to the standing of its end, which has none before it was opened. The journal behind the step is the third argument. An opening is refused
+-- behind a call that failed, and for nothing else.
 abbrev pub Follows : Chooser → Header → List ℕ → Answer → List Call → Option Standing → Option Standing → Type 0
-Follows chooser header journal Opened part before after = (entries : List Entry) × Holds header entries journal × (after ≡ Some (first_standing header entries))
-Follows chooser header journal (NotOpened fault) part before after = after ≡ None
+Follows chooser header journal Opened part before after = (entries : List Entry) × Holds header entries journal × (after ≡ Some (first_standing header entries)) × (failed_in part ≡ 0)
+Follows chooser header journal (NotOpened fault) part before after = (after ≡ None) × (fault ≡ opens.Station) × HasFailed part
 Follows chooser header journal Running part before after = PollsFrom Running chooser part before after
 Follows chooser header journal (Ended end) part before after = PollsFrom (Ended end) chooser part before after
 Follows chooser header journal (Broken fault) part before after = PollsFrom (Broken fault) chooser part before after

@@ -7,6 +7,7 @@ use Rattle.dsd_station.specs.ByPlan.{fail_off, stop_off}
 use Rattle.dsd_station.specs.Logged.{Log, image_by}
 use Rattle.dsd_station.specs.Replayed.{state_of}
 use Rattle.dsd_journal.specs.declared.entry.Entry.{Entry}
+use Rattle.dsd_journal.specs.declared.header.Header.{Header}
 use Rattle.dsd_journal.specs.JournalImage.{Holds}
 use Rattle.delivery_book.specs.Books.{BookView}
 use Rattle.delivery_book.specs.Signing.{Legal}
@@ -18,6 +19,8 @@ use Rattle.cable_world.specs.Settings.{chooser_at}
 use Rattle.cable_world.specs.Steps.{same_role}
 use Rattle.cable_world.specs.WorldReports.{IsCounted, heading}
 use Rattle.cable_world.specs.declared.cable.Cable.{Cable}
+use Rattle.cable_world.specs.declared.left_book.Keeper.{Keeper}
+use Rattle.cable_world.specs.declared.left_book.Keeper.TheVariants.{Ended, Opened}
 use Rattle.cable_world.specs.StepsKept.{StepView}
 use Rattle.cable_world.specs.declared.world_report.WorldReport.{WorldReport}
 
@@ -29,6 +32,25 @@ pub record IsOver (role : Role) (image : List ℕ) (book : BookView) : Type 0 wh
   pub holds : Holds book.header book.known image
   pub legal : Legal role book.known
   pub unchanged : book.known ≡ book.entries
+
+-- the image holds the journal of this end, with legal entries
+pub record HoldsBook (role : Role) (image : List ℕ) : Type 0 where
+  pub header : Header
+  pub entries : List Entry
+  pub own : header.role ≡ role
+  pub holds : Holds header entries image
+  pub legal : Legal role entries
+
+-- a book of this end that knows what its journal has, and no more
+pub record IsWhole (role : Role) (book : BookView) : Type 0 where
+  pub own : book.header.role ≡ role
+  pub legal : Legal role book.known
+  pub unchanged : book.known ≡ book.entries
+
+-- whoever has it
+abbrev pub book_in : Keeper → BookView
+book_in (Ended player) = player.book
+book_in (Opened book) = book
 
 -- A station that works, on which nothing is armed that has not fallen.
 pub record IsUnarmed (log : Log) : Type 0 where

@@ -7,9 +7,11 @@ pub mod Steps
 pub mod Scenes
 pub mod Obeying
 pub mod Living
+pub mod Holding
 pub mod Leaving
 pub mod Delivering
 pub mod Noted
+pub mod Faulting
 pub mod Diligence
 pub mod Progressing
 pub mod Worlds

@@ -1,8 +1,8 @@
 -- What contracts see of an end that runs.
-use Rattle.std.specs.Prelude.{◌≡◌, ℕ, List, Result, Err, IfOk}
+use Rattle.std.specs.Prelude.{◌≡◌, ◌⊎◌, ℕ, List, Result, Err, IfOk}
 use Rattle.dsd_values.specs.declared.role.Role.{Role}
 use Rattle.dsd_station.specs.Told.{Told}
-use Rattle.dsd_journal.specs.Devices.{IsStationFault, Opens, since}
+use Rattle.dsd_journal.specs.Devices.{IsStationFault, Opens, Unfailed, since}
 use Rattle.dsd_journal.specs.Journals.{Rests}
 use Rattle.dsd_journal.specs.declared.opening.OpenFault.{OpenFault}
 use Rattle.dsd_journal.specs.declared.opening.OpenFault.TheVariants.{NotAJournal}
@@ -51,5 +51,6 @@ pub record IsOpenedBy (role : Role) (chooser : Chooser) (player : PlayerView) (o
 
 pub record HasOpened (role : Role) (chooser : Chooser) (result : Result PlayerView OpenFault) (old new : Told) : Type 0 where
   pub opens : Opens (IsStationFault result) old new
+  pub unfailed : IsStationFault result ⊎ Unfailed old new
   pub refused : (place : ℕ) → result ≡ Err (NotAJournal place) → IsBookRefused role old.journal place
   pub ok : IfOk result (λ player. IsOpenedBy role chooser player old new)

@@ -6,6 +6,7 @@ use Rattle.dsd_record.specs.Choices.{Chooser}
 use Rattle.dsd_station.specs.declared.call.Call.{Call}
 use Rattle.dsd_station.specs.declared.call.Reception.{Reception}
 use Rattle.dsd_station.specs.Heard.{answers_in, said_in}
+use Rattle.dsd_station.specs.Logged.{image_by}
 use Rattle.dsd_station.specs.Replayed.{IsFine, State, state_of}
 use Rattle.dsd_station.specs.Told.{Told}
 use Rattle.dsd_journal.specs.declared.entry.Entry.{Entry}
@@ -14,6 +15,7 @@ use Rattle.dsd_journal.specs.JournalImage.{Holds}
 use Rattle.dsd_end.specs.RunSoFar.{Runs}
 use Rattle.dsd_end.specs.Standings.{Standing}
 use Rattle.cable_world.specs.Diligence.{Follows, refused_in}
+use Rattle.cable_world.specs.Holding.{HoldsLast}
 use Rattle.cable_world.specs.Leaving.{AreUnwriting, BeginsRun, LeavesNothing, LeavesRuns, recorded, state_behind}
 use Rattle.cable_world.specs.Living.{begins_run, is_opening}
 use Rattle.cable_world.specs.Noted.{Noted, kind_of, step_of}
@@ -116,6 +118,7 @@ pub record StandsSo (its : OneEnd) (standing : Option Standing) (run : Option Op
   pub fine : IsFine (state_of seat.log.calls)
   pub refused : refused_in standing ≡ seat.refused
   pub leaves : LeavesSo its run (state_of seat.log.calls)
+  pub holds : HoldsLast its.header standing (image_by seat.log)
   pub plays : (player : PlayerView) → seat.player ≡ Some player → IsPlaying its standing run seat.log.calls player
 
 abbrev pub progress_at : SeatView → Option Standing → Option OpenRun → Progress

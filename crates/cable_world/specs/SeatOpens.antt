@@ -14,6 +14,7 @@ use Rattle.dsd_journal.specs.declared.opening.OpenFault.{OpenFault}
 use Rattle.delivery_book.specs.Signing.{Legal}
 use Rattle.dsd_end.specs.RunSoFar.{Runs}
 use Rattle.dsd_end.specs.Standings.{first_standing}
+use Rattle.cable_world.specs.Faulting.{TellsOpening}
 use Rattle.cable_world.specs.Leaving.{AreUnwriting}
 use Rattle.cable_world.specs.Living.{AreCallsOf}
 use Rattle.cable_world.specs.Players.{PlayerView, chooser_by}
@@ -44,6 +45,7 @@ pub record PlayerOpens (role : Role) (chooser : Chooser) (result : Result Player
   pub answers : EachAnswered (after_restart before).plan (after_restart before).calls part
   pub calls : AreCallsOf Opening part
   pub unwriting : AreUnwriting (state_of before.calls) (Restart ∷ part)
+  pub tells : TellsOpening role result part (state_of after.calls).journal
   pub ok : IfOk result (λ player. IsFirst role chooser player (after_restart before).calls after.calls)
 
 abbrev pub opening_answer : Result PlayerView OpenFault → Answer

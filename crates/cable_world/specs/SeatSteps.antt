@@ -2,10 +2,11 @@
 use Rattle.std.specs.Prelude.{◌≡◌, ◌<◌, ◌++◌, true, false, if◌then◌else◌, List, Some, None, Result, Ok, Err}
 use Rattle.dsd_station.specs.declared.call.Call.{Call}
 use Rattle.dsd_station.specs.ByPlan.{EachAnswered}
-use Rattle.dsd_station.specs.Logged.{Log}
+use Rattle.dsd_station.specs.Logged.{Log, image_by}
 use Rattle.dsd_station.specs.Planned.{no_plan}
 use Rattle.dsd_station.specs.Replayed.{IsFine, state_of, told_from}
 use Rattle.dsd_station.specs.Told.{Told}
+use Rattle.dsd_journal.specs.JournalImage.{Holds}
 use Rattle.dsd_journal.specs.Journals.{Rests}
 use Rattle.dsd_journal.specs.declared.entry.Entry.{Entry}
 use Rattle.dsd_values.specs.declared.fault.Memory.{Memory}
@@ -53,6 +54,7 @@ pub record PlayerPolls (answer : Answer) (old new : PlayerView) (before after : 
   pub runs : (first : List Entry) (beginning : Told) → Runs (chooser_by old.choices) first beginning old.standing (told_of before.calls)
       → Runs (chooser_by old.choices) first beginning new.standing (told_of after.calls)
   pub fine : IsFine (state_of after.calls)
+  pub holds : new.standing.failed ≡ false → Holds new.standing.header new.standing.desk.entries (image_by after)
   pub pollable : runs_by answer ≡ true → IsPollable new after.calls
   pub patience : runs_by answer ≡ true → patience new.standing < patience old.standing
 

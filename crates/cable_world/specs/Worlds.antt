@@ -1,7 +1,8 @@
 -- What contracts see of a world, and what it is once all events were played.
-use Rattle.std.specs.Prelude.{◌≡◌, ℕ, List, [], Option, None}
+use Rattle.std.specs.Prelude.{◌≡◌, ℕ, All, List, [], Option, None}
 use Rattle.dsd_values.specs.declared.role.Role.{Role}
 use Rattle.dsd_values.specs.declared.role.Role.TheVariants.{Receiver, Supplier}
+use Rattle.base_record_894.specs.RecordText.{IsBase}
 use Rattle.dsd_record.specs.Choices.{Chooser}
 use Rattle.dsd_station.specs.Logged.{Log, image_by}
 use Rattle.dsd_station.specs.Planned.{no_plan}
@@ -16,6 +17,7 @@ use Rattle.dsd_end.specs.Standings.{Standing}
 use Rattle.handheld_core.specs.Choosing.{supplier}
 use Rattle.receiver_core.specs.Choosing.{receiver}
 use Rattle.cable_world.specs.Diligence.{ComesBy, refused_in}
+use Rattle.cable_world.specs.Holding.{HoldsLast}
 use Rattle.cable_world.specs.Leaving.{IsBegun, LeavesNothing}
 use Rattle.cable_world.specs.Living.{AreRunsOf, CallSo, HasNoHear, parts_of}
 use Rattle.cable_world.specs.Noted.{Noted, steps_of}
@@ -69,12 +71,14 @@ pub record IsNew (world : WorldView) : Type 0 where
 -- ---- what its steps show of each end
 
 -- What the steps tell of this end, whose station was so at first: each run leaves a list that its rules allow, each poll is one step of its table,
--- rules and choices, and the sets that it has refused are those of its last standing.
+-- rules and choices, and the sets that it has refused are those of its last standing. Where no poll since it was opened last has answered a fault, the image
+-- that its station has holds exactly the entries of that standing.
 pub record IsTold (world : WorldView) (role : Role) (first : Log) : Type 0 where
   pub begun : IsBegun role (header_of world.script role) first (steps_of world.noted)
   pub last : Option Standing
   pub diligent : ComesBy role (chooser_of world.script role) (header_of world.script role) (state_of first.calls) None world.noted last
   pub refused : refused_in last ≡ refused_by world role
+  pub holds : HoldsLast (header_of world.script role) last (image_by (side world.scene role).log)
 
 -- These are the runs of this end, as the steps show them. They are a life, and the image that its station has holds the list which they leave.
 pub record IsLifeIn (world : WorldView) (role : Role) (runs : List Run) : Type 0 where
@@ -95,7 +99,8 @@ pub record IsTwoLives (world : WorldView) : Type 0 where
 -- ---- when all was played
 
 -- A world that has played all events of its script: from two formatted stations its steps obey the script, each makes calls
--- of its kind alone, and they are what each end tells; the runs are two lives. The images are those that were left behind the last event.
+-- of its kind alone, and they are what each end tells; the runs are two lives. The images are those that were left behind the last event. Each draft is a
+-- record that some text spells.
 pub record HasPlayed (world : WorldView) : Type 0 where
   pub handheld : Log
   pub receiver : Log
@@ -107,6 +112,7 @@ pub record HasPlayed (world : WorldView) : Type 0 where
   pub handheld_told : IsTold world Supplier handheld
   pub receiver_told : IsTold world Receiver receiver
   pub lives : IsTwoLives world
+  pub bases : All IsBase (chooser_of world.script Supplier).drafts
   pub handheld_image : image_by world.scene.supplier.log ≡ image_by last.supplier.log
   pub receiver_image : image_by world.scene.receiver.log ≡ image_by last.receiver.log
 

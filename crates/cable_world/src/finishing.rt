@@ -2,13 +2,15 @@
 
 ghost use Rattle.std.specs.Prelude.{◌≡◌, ◌++◌, IfOk, OnOk};
 ghost use Rattle.dsd_values.specs.declared.role.Role.TheVariants.{Receiver, Supplier};
+ghost use Rattle.dsd_station.specs.Logged.{image_by};
 ghost use Rattle.cable_world.specs.CableSteps.{IsOpen};
 ghost use Rattle.cable_world.specs.Cables.{AreStepsIn, cable_of};
-ghost use Rattle.cable_world.specs.Finishing.{Finishes, Tells, part_of};
+ghost use Rattle.cable_world.specs.Finishing.{Finishes, HoldsBook, Tells, part_of};
 ghost use Rattle.cable_world.specs.LastRuns.{last_run_of};
 
 use crate::cable::Cable;
 use crate::last_run::last_run;
+use crate::left_book::LeftBook;
 use crate::world_report::{
     WorldReport, adjusted_at_both, amount_of_finals, finals_at_both, quantity_of_finals,
 };
@@ -18,9 +20,11 @@ use end_report::{LastRun, are_settled_at_both, put, put_report};
 use std::alloc::AllocError;
 
 impl Cable {
-    /// Disarms and restarts both stations, and opens a book over each image.
+    /// The report of books over the images of both stations.
     pub(crate) fn finish(&mut self) -> Result<WorldReport, Memory>
         requires ready { IsOpen self.old }
+        requires handheld { HoldsBook Supplier (image_by self.old.handheld.log) }
+        requires receiver { HoldsBook Receiver (image_by self.old.receiver.log) }
         ensures setting { self.new.setting ≡ self.old.setting }
         ensures finishes { IfOk result (λ report. Finishes report self.old self.new) }
     {
@@ -28,22 +32,22 @@ impl Cable {
         match self.receiver.leave(self.alloc, Role::Receiver) {
             Ok(receiver) => self.report(handheld, receiver),
             Err(memory) => {
-                drop(handheld);
+                handheld.close();
                 Err(memory)
             }
         }
     }
 
     /// The report of these books, which are let go.
-    fn report(&self, handheld: Book, receiver: Book) -> Result<WorldReport, Memory>
+    fn report(&self, handheld: LeftBook, receiver: LeftBook) -> Result<WorldReport, Memory>
         requires steps { AreStepsIn self.now.handheld.log.calls self.now.receiver.log.calls self.now.steps.items }
         requires handheld { handheld.known ≡ handheld.entries }
         requires receiver { receiver.known ≡ receiver.entries }
         ensures { IfOk result (λ report. Tells report self.now handheld receiver) }
     {
-        let told = self.told(&handheld, &receiver);
-        drop(handheld);
-        drop(receiver);
+        let told = self.told(handheld.book(), receiver.book());
+        handheld.close();
+        receiver.close();
         told
     }
 

@@ -15,6 +15,7 @@ mod hearing;
 mod last_run;
 mod laws;
 mod leaving;
+mod left_book;
 mod opening;
 mod player;
 mod playing;

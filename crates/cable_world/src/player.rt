@@ -12,6 +12,7 @@ ghost use Rattle.delivery_book.specs.Signing.{Legal};
 ghost use Rattle.dsd_end.specs.EndCalls.{MakesCalls};
 ghost use Rattle.dsd_end.specs.EndFaults.{EndsAtStation, IfNoise, IsNoise};
 ghost use Rattle.dsd_end.specs.EndSeen.{turn_at};
+ghost use Rattle.dsd_end.specs.FullTurns.{IfEndFull, PollFull};
 ghost use Rattle.dsd_end.specs.Patience.{CostsPatience};
 ghost use Rattle.dsd_end.specs.Polls.{HearsOnce, Polled, with_flags};
 ghost use Rattle.dsd_end.specs.RunSoFar.{Runs};
@@ -19,6 +20,7 @@ ghost use Rattle.handheld_core.specs.Choosing.{supplier};
 ghost use Rattle.receiver_core.specs.Choosing.{receiver};
 ghost use Rattle.cable_world.specs.Players.{HasOpened, chooser_by};
 
+use delivery_book::Book;
 use dsd_end::{End, EndFault, Turn, open_end};
 use dsd_journal::OpenFault;
 use dsd_record::Decider;
@@ -58,6 +60,7 @@ impl Player {
         drafts: Drafts,
     ) -> Result<Player, OpenFault>
         ensures opened { HasOpened Supplier (supplier drafts) result (told_by station.old) (told_by station.new) }
+        ensures cause { result ≡ Err OpenFault.Station → Rose station.old.faults station.new.faults }
     {
         match open_end(alloc, station, Role::Supplier, drafts) {
             Ok(end) => Ok(Player {
@@ -74,6 +77,7 @@ impl Player {
         counts: Counts,
     ) -> Result<Player, OpenFault>
         ensures opened { HasOpened Receiver (receiver counts) result (told_by station.old) (told_by station.new) }
+        ensures cause { result ≡ Err OpenFault.Station → Rose station.old.faults station.new.faults }
     {
         match open_end(alloc, station, Role::Receiver, counts) {
             Ok(end) => Ok(Player {
@@ -87,8 +91,11 @@ impl Player {
     pub(crate) fn poll(&mut self, station: &mut MemoryStation) -> Result<Turn, EndFault>
         requires rests { self.old.standing.failed ≡ false → Rests self.old.book.header self.old.book.known (told_by station.old) }
         ensures chooser { chooser_by self.new.choices ≡ chooser_by self.old.choices }
+        ensures cause { EndsAtStation result station.old.faults station.new.faults }
+        ensures full { IfEndFull result (PollFull (Unit {0}) (chooser_by self.old.choices) self.old.standing (told_by station.old) (told_by station.new)) }
         ensures header { self.new.book.header ≡ self.old.book.header }
         ensures only { result ≡ Err EndFault.Failed → self.old.standing.failed ≡ true }
+        ensures fails { OnErr result (self.new.standing.failed ≡ true) }
         ensures fine { OnOk result (self.new.standing.failed ≡ false) }
         ensures turn { IfOk result (λ turn. turn ≡ turn_at self.new.standing.line) }
         ensures patience { OnOk result (CostsPatience self.old.standing self.new.standing) }
@@ -99,6 +106,7 @@ impl Player {
         ensures step { OnOk result (Polled (Unit {0}) (chooser_by self.old.choices) self.old.standing self.new.standing (told_by station.old) (told_by station.new)) }
         ensures runs { (first : List Entry) (beginning : Told) → Runs (chooser_by self.old.choices) first beginning self.old.standing (told_by station.old)
             → Runs (chooser_by self.old.choices) first beginning self.new.standing (told_by station.new) }
+        ensures entries { self.new.book.known ≡ self.new.standing.desk.entries }
     {
         match &mut self.end {
             AnyEnd::Handheld(end) => end.poll(station),
@@ -114,6 +122,15 @@ impl Player {
         match &self.end {
             AnyEnd::Handheld(end) => end.refused(),
             AnyEnd::Receiver(end) => end.refused(),
+        }
+    }
+
+    pub(crate) fn book(&self) -> &Book
+        ensures { result.now ≡ self.now.book }
+    {
+        match &self.end {
+            AnyEnd::Handheld(end) => end.book(),
+            AnyEnd::Receiver(end) => end.book(),
         }
     }
 

@@ -1,9 +1,10 @@
 //! Polling an end at its station in memory.
 
-ghost use Rattle.std.specs.Prelude.{◌≡◌, false, IfOk};
+ghost use Rattle.std.specs.Prelude.{◌≡◌, false, IfOk, Some};
 ghost use Rattle.dsd_station.specs.Logged.{IsPlayed};
 ghost use Rattle.cable_world.specs.Noted.{runs_by};
 ghost use Rattle.cable_world.specs.SeatSteps.{Grows, IsPollable, PlayerPolls, noted_answer};
+ghost use Rattle.cable_world.specs.Seats.{RestsIfEnded};
 
 use crate::answer::Answer;
 use crate::player::Player;
@@ -18,6 +19,8 @@ pub(crate) fn poll_at(player: &mut Player, station: &mut MemoryStation) -> Resul
     ensures grows { Grows station.old station.new }
     ensures polls { IfOk result (λ answer. PlayerPolls answer player.old player.new station.old station.new) }
     ensures unstarved { IfOk result (λ answer. station.new.starved ≡ false) }
+    // Where the session has ended, the image holds what the book knows.
+    ensures rests { IfOk result (λ answer. RestsIfEnded answer (Some player.new) station.new) }
 {
     // What holds of each station in memory is known of its record.
     let _ = station.calls();

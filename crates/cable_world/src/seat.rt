@@ -4,22 +4,22 @@ ghost use Rattle.std.specs.Prelude.{◌≡◌, false, ◌<◌, ◌-◌, IfOk, Is
 ghost use Rattle.std.specs.Option.{option_copied};
 ghost use Rattle.dsd_station.specs.Logged.{IsPlayed, image_by};
 ghost use Rattle.dsd_station.specs.Plans.{with_failure, with_fed, with_stop};
-ghost use Rattle.cable_world.specs.Finishing.{IsOver};
+ghost use Rattle.cable_world.specs.Finishing.{HoldsBook, IsOver};
 ghost use Rattle.cable_world.specs.Noted.{runs_by};
 ghost use Rattle.cable_world.specs.Opening.{idle_at};
 ghost use Rattle.cable_world.specs.Scenes.{is_busy as is_busy_side};
 ghost use Rattle.cable_world.specs.SeatSteps.{Grows, IsReady, SeatPolls};
 ghost use Rattle.cable_world.specs.SeatOpens.{SeatStarts, opening_answer, player_in};
 ghost use Rattle.cable_world.specs.Settings.{chooser_at};
-ghost use Rattle.cable_world.specs.Seats.{settled, side_of, with_log, with_player, with_spoken, without_player};
+ghost use Rattle.cable_world.specs.Seats.{EndedRests, RestsAt, RestsIfEnded, settled, side_of, with_log, with_player, with_spoken, without_player};
 
 use crate::answer::Answer;
 use crate::leaving::open_left;
+use crate::left_book::{LeftBook, is_whole};
 use crate::player::Player;
 use crate::polling::poll_at;
 use crate::setting::Setting;
 use crate::starting::start;
-use delivery_book::Book;
 use dsd_journal::OpenFault;
 use dsd_station::{Call, Given, Handed, MemoryStation, Pick};
 use dsd_values::{Memory, Role};
@@ -27,20 +27,25 @@ use std::alloc::Global;
 use std::marker::Model;
 
 /// One end at its station in memory, where it runs, or the station alone.
+///
+/// An end whose session has ended keeps its seat, so that its book need not be read again from the image, until the next is opened.
 #[derive(Drop)]
 pub(crate) struct Seat {
     station: MemoryStation,
     player: Option<Player>,
+    ended: Option<Player>,
     spoken: Vec<Handed>,
     refused: u64,
 }
 
 impl Model for Seat {
-    ghost use Rattle.cable_world.specs.Seats.{SeatView, seat_of};
+    ghost use Rattle.cable_world.specs.Seats.{IsSeat, SeatView, seat_of};
 
     ghost Value = { SeatView };
 
     ghost view = { seat_of };
+
+    ghost invariant = { IsSeat };
 }
 
 impl Seat {
@@ -51,6 +56,7 @@ impl Seat {
         Seat {
             station,
             player: None,
+            ended: None,
             spoken: Vec::new(alloc),
             refused: 0,
         }
@@ -149,13 +155,16 @@ impl Seat {
         self.spoken.get((number as usize).saturating_sub(1))
     }
 
-    /// Lets its end go, where it does not run by what it answered.
+    /// Lets its end go, where it does not run by what it answered; one whose session has ended keeps its seat.
     fn settle(&mut self, answer: Answer) -> Answer
+        requires { RestsIfEnded answer self.old.player self.old.log }
         ensures answer { result ≡ answer }
         ensures seat { self.new ≡ settled (runs_by answer) self.old }
     {
-        if !answer.runs() {
-            self.close();
+        match answer {
+            Answer::Opened | Answer::Running => {}
+            Answer::Ended(_) => self.keep_ended(),
+            Answer::NotOpened(_) | Answer::Broken(_) => self.close(),
         }
         answer
     }
@@ -172,6 +181,7 @@ impl Seat {
         ensures starts { IfOk result (λ answer. SeatStarts role (chooser_at setting.now role) answer self.old self.new) }
         ensures ready { IfOk result (λ answer. IsReady self.new) }
     {
+        let_go(&mut self.ended);
         match start(alloc, role, &mut self.station, setting) {
             Ok(opened) => Ok(self.take_in(opened)),
             Err(memory) => Err(memory),
@@ -194,32 +204,89 @@ impl Seat {
         }
     }
 
-    /// Disarms and restarts its station, and opens the book of its end over the image that is left.
-    pub(crate) fn leave(&mut self, alloc: Global, role: Role) -> Result<Book, Memory>
+    /// The book of its end over the image that is left: that of the end whose session has ended last, or one that is opened once the station is disarmed
+    /// and restarted.
+    pub(crate) fn leave(&mut self, alloc: Global, role: Role) -> Result<LeftBook, Memory>
         requires unstarved { self.old.log.starved ≡ false }
+        requires book { HoldsBook role (image_by self.old.log) }
         ensures grows { Grows self.old.log self.new.log }
         ensures image { image_by self.new.log ≡ image_by self.old.log }
         ensures refused { self.new.refused ≡ self.old.refused }
         ensures book { IfOk result (IsOver role (image_by self.old.log)) }
     {
-        open_left(alloc, &mut self.station, role)
+        match self.ended.take() {
+            Some(player) => self.leave_ended(alloc, role, player),
+            None => self.open_left(alloc, role),
+        }
+    }
+
+    /// The book of this end, whose session has ended, where it is whole.
+    fn leave_ended(&mut self, alloc: Global, role: Role, player: Player) -> Result<LeftBook, Memory>
+        requires unstarved { self.old.log.starved ≡ false }
+        requires book { HoldsBook role (image_by self.old.log) }
+        requires rests { RestsAt player self.old.log }
+        ensures grows { Grows self.old.log self.new.log }
+        ensures image { image_by self.new.log ≡ image_by self.old.log }
+        ensures refused { self.new.refused ≡ self.old.refused }
+        ensures book { IfOk result (IsOver role (image_by self.old.log)) }
+    {
+        if is_whole(player.book(), role) {
+            return Ok(LeftBook::of_ended(player));
+        }
+        player.close();
+        self.open_left(alloc, role)
+    }
+
+    fn open_left(&mut self, alloc: Global, role: Role) -> Result<LeftBook, Memory>
+        requires unstarved { self.old.log.starved ≡ false }
+        requires book { HoldsBook role (image_by self.old.log) }
+        ensures grows { Grows self.old.log self.new.log }
+        ensures image { image_by self.new.log ≡ image_by self.old.log }
+        ensures refused { self.new.refused ≡ self.old.refused }
+        ensures book { IfOk result (IsOver role (image_by self.old.log)) }
+    {
+        match open_left(alloc, &mut self.station, role) {
+            Ok(book) => Ok(LeftBook::of_opened(book)),
+            Err(memory) => Err(memory),
+        }
+    }
+
+    /// Keeps the seat of its end, whose session has ended.
+    fn keep_ended(&mut self)
+        requires { EndedRests self.old.player self.old.log }
+        ensures { self.new ≡ without_player self.old }
+    {
+        if let Some(player) = self.player.take() {
+            if let Some(before) = self.ended.replace(player) {
+                before.close();
+            }
+        }
     }
 
     fn seat(&mut self, player: Player)
         requires { self.old.player ≡ None }
         ensures { self.new ≡ record { log = self.old.log; player = Some player; spoken = self.old.spoken; refused = self.old.refused } }
     {
+        let_go(&mut self.ended);
         if let Some(before) = self.player.replace(player) {
             before.close();
         }
     }
 
-    /// Lets its end go.
+    /// Lets its end go, also one whose session has ended.
     fn close(&mut self)
         ensures { self.new ≡ without_player self.old }
     {
-        if let Some(player) = self.player.take() {
-            player.close();
-        }
+        let_go(&mut self.player);
+        let_go(&mut self.ended);
+    }
+}
+
+/// Lets an end go, where there is one.
+fn let_go(end: &mut Option<Player>)
+    ensures { end.new ≡ None }
+{
+    if let Some(player) = end.take() {
+        player.close();
     }
 }

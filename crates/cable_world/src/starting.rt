@@ -1,6 +1,6 @@
 //! Restarting a station in memory and opening its end.
 
-ghost use Rattle.std.specs.Prelude.{◌≡◌, false, IfOk, Ok};
+ghost use Rattle.std.specs.Prelude.{◌≡◌, false, IfOk, Err, Ok};
 ghost use Rattle.dsd_station.specs.Logged.{Log};
 ghost use Rattle.dsd_station.specs.Plans.{after_restart};
 ghost use Rattle.dsd_values.specs.declared.role.Role.TheVariants.{Receiver, Supplier};
@@ -146,7 +146,7 @@ fn unless_memory(
     opened: Result<Player, OpenFault>,
     starved: bool,
 ) -> Result<Result<Player, OpenFault>, Memory>
-    ensures { IfOk result (λ kept. (kept ≡ opened) × (starved ≡ false)) }
+    ensures { IfOk result (λ kept. (kept ≡ opened) × (starved ≡ false) × (opened ≡ Err OpenFault.Memory → ⊥)) }
 {
     match opened {
         Ok(player) => unless_starved(player, starved),

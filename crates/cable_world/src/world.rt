@@ -14,6 +14,7 @@ use crate::setting::Setting;
 use crate::stage::Stage;
 use crate::world_report::WorldReport;
 use dsd_journal::an_image_holds_one_list;
+use dsd_record::Decider;
 use dsd_values::{Memory, Role};
 use std::alloc::Global;
 use std::marker::Model;
@@ -68,8 +69,9 @@ impl World {
         // Both ends hold the same record.
         ensures lives { OnOk result (IsTwoLives self.new) }
     {
-        // Of each image it is known that it holds one list at most.
+        // Of each image it is known that it holds one list at most, and of each draft that some text spells it.
         an_image_holds_one_list();
+        let _ = self.cable.setting.drafts.drafts();
         self.stage = Stage::Broken;
         match self.cable.play_all(self.events.as_slice()) {
             Ok(()) => {
@@ -80,8 +82,8 @@ impl World {
         }
     }
 
-    /// Disarms and restarts both stations, and opens a book over each image that is left: what is printed of these books and of how the last run of each end
-    /// came out. After `Memory` the world may only be dropped.
+    /// What is printed of the books over the images that are left and of how the last run of each end came out. The book of an end whose session has ended
+    /// is at hand; else its station is disarmed and restarted, and a book opened. After `Memory` the world may only be dropped.
     pub fn finish(&mut self) -> Result<WorldReport, Memory>
         requires { self.old.stage ≡ Stage.Played }
         ensures script { self.new.script ≡ self.old.script }

@@ -1,6 +1,7 @@
-use Rattle.std.proofs.Common.{sym, ◌∙◌, subst, ◌≡◌, ◌++◌, false, Result}
+use Rattle.std.proofs.Common.{sym, ◌∙◌, subst, ◌≡◌, ◌++◌, false, Result, Err}
 use Rattle.dsd_values.specs.declared.role.Role.TheVariants.{Supplier}
 use Rattle.dsd_journal.specs.declared.opening.OpenFault.{OpenFault}
+use Rattle.dsd_journal.specs.declared.opening.OpenFault.TheVariants.{Memory}
 use Rattle.handheld_core.specs.Choosing.{supplier}
 use Rattle.cable_world.specs.Players.{PlayerView}
 use Rattle.cable_world.specs.SeatOpens.{PlayerOpens}
@@ -16,12 +17,12 @@ returns-clause-opens c = λ before is.
     let chooser = supplier c.args.drafts in
     let opened = c.open_handheld-opened.result in
     let after = c.open_handheld-opened.new.station in
-    if_ok_so c.unless_memory.result (λ kept. (kept ≡ opened) × (c.starved-starved.result ≡ false)) (λ kept. PlayerOpens Supplier chooser kept before after) c.unless_memory.ensures
+    if_ok_so c.unless_memory.result (λ kept. (kept ≡ opened) × (c.starved-starved.result ≡ false) × (opened ≡ Err Memory → ⊥)) (λ kept. PlayerOpens Supplier chooser kept before after) c.unless_memory.ensures
     (λ kept so. subst (λ (r : Result PlayerView OpenFault). PlayerOpens Supplier chooser r before after) (sym so.0)
     (player_opened Supplier chooser opened before c.args.station.now after is c.open_handheld-opened.ensures.opened c.calls.ensures.played c.starved-starved.ensures.played
-    (unstarved_before before c.args.station.now is c.requires.unstarved) (sym c.starved-starved.ensures.value ∙ so.1)))
+    (unstarved_before before c.args.station.now is c.requires.unstarved) (sym c.starved-starved.ensures.value ∙ so.1) c.starved-starved.ensures.short c.open_handheld-opened.ensures.cause so.2))
 
 pub returns-clause-unstarved : goal.returns-clause-unstarved
 returns-clause-unstarved c =
-    if_ok_so c.unless_memory.result (λ kept. (kept ≡ c.open_handheld-opened.result) × (c.starved-starved.result ≡ false)) (λ kept. c.open_handheld-opened.new.station.starved ≡ false) c.unless_memory.ensures
+    if_ok_so c.unless_memory.result (λ kept. (kept ≡ c.open_handheld-opened.result) × (c.starved-starved.result ≡ false) × (c.open_handheld-opened.result ≡ Err Memory → ⊥)) (λ kept. c.open_handheld-opened.new.station.starved ≡ false) c.unless_memory.ensures
     (λ kept so. sym c.starved-starved.ensures.value ∙ so.1)

@@ -3,6 +3,7 @@ use Rattle.dsd_record.specs.Choices.{Chooser}
 use Rattle.dsd_station.specs.Logged.{told_by}
 use Rattle.dsd_journal.specs.Devices.{since}
 use Rattle.dsd_end.specs.RunSoFar.{Runs}
+use Rattle.cable_world.proofs.Failing.{unfailed_of}
 use Rattle.cable_world.proofs.player.Player.open_handheld.Goals as goal
 
 pub returns-in-Ok : goal.returns-in-Ok
@@ -11,6 +12,7 @@ returns-in-Ok c =
     record {
       opened = record {
         opens = e.told tt;
+        unfailed = unfailed_of (e.unfailed tt);
         refused = λ place is. absurd (cc);
         ok = record {
           chooser_is = e.decider;
@@ -22,7 +24,8 @@ returns-in-Ok c =
           runs = subst (λ (x : Chooser). Runs x c.in-Ok.end.core.book.entries (since (told_by c.args.station.now)) c.in-Ok.end.core.standing (told_by c.open_end.new.station)) e.decider (e.runs tt);
         };
       };
+      cause = λ is. absurd (cc);
     }
 
 pub returns-in-Err : goal.returns-in-Err
-returns-in-Err c = let e = c.in-Err.ensures in record { opened = record { opens = e.told tt; refused = λ place is. e.refused tt place (cc); ok = tt } }
+returns-in-Err c = let e = c.in-Err.ensures in record { opened = record { opens = e.told tt; unfailed = unfailed_of (e.unfailed tt); refused = λ place is. e.refused tt place (cc); ok = tt }; cause = λ is. e.cause (cc) }
