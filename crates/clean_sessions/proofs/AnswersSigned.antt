@@ -1,11 +1,9 @@
 -- An own turn signs the answer that is chosen for a delivery, in that very turn.
-use Rattle.std.proofs.Common.{◌≡◌, ◌≤◌, ◌+◌, ℕ, Bool, true, false, not, ◌&&◌, ◌||◌, is_none, cond, length, List, [], ◌∷◌, ◌++◌, map, Option, Some, None, refl, sym, ap, subst, ◌∙◌, inl, inr, length-append, arith}
+use Rattle.std.proofs.Common.{◌≡◌, ◌≤◌, ◌+◌, ℕ, Bool, true, false, not, ◌&&◌, ◌||◌, is_none, cond, length, List, [], ◌∷◌, ◌++◌, Option, Some, None, refl, sym, ap, subst, ◌∙◌, inl, inr, arith}
 use Rattle.std.specs.Str.{bytes_eq}
 use Rattle.std.specs.List.{filter}
 use Rattle.std.specs.Option.{option_and_then, option_map}
 use Rattle.std.proofs.lemmas.Bool.{cases_Bool}
-use Rattle.std.proofs.lemmas.List.{length-map}
-use Rattle.std.proofs.lemmas.List.Elements.{filter-append}
 use Rattle.std.proofs.lemmas.Slice.Eq.{bytes_eq-Decides}
 use Rattle.dsd_values.specs.declared.role.Role.{Role}
 use Rattle.adjustment_895.specs.AnswerRecord.{AnswerRecord}
@@ -13,7 +11,7 @@ use Rattle.dsd_record.specs.Choices.{Chooser}
 use Rattle.dsd_record.specs.Version.{Version}
 use Rattle.dsd_journal.specs.declared.entry.Entry.{Entry}
 use Rattle.dsd_journal.specs.declared.header.Header.{Header}
-use Rattle.delivery_book.specs.Deeds.{Deed, check_in, deeds_of, first_of, level_in, is_signed, of_delivery, proposes, signed_texts}
+use Rattle.delivery_book.specs.Deeds.{Deed, check_in, deeds_of, first_of, level_in, is_signed, of_delivery, proposes}
 use Rattle.delivery_book.specs.Lookups.{amount_in, awaits_us, is_taken, last_of, numbers_of, own_amount, seen_of}
 use Rattle.delivery_book.specs.Signing.{next_control}
 use Rattle.delivery_book.specs.Standing.{acceptance_of, highest, highest_of, version_at, version_to}
@@ -22,6 +20,7 @@ use Rattle.own_turn.specs.DueSets.{DueSet}
 use Rattle.own_turn.specs.OwnTurn.{Answers, Desk, InTurn, MayAnswer, Turned, awaiting, is_acceptance, signed}
 use Rattle.clean_sessions.specs.ChosenAnswers.{ChoosesRightly, IsChosenOn, answer_of, nine_digits}
 use Rattle.clean_sessions.specs.DeliveryStands.{AreBacked, IsBetweenTurns, SignsSets, sets_in}
+use Rattle.clean_sessions.proofs.AddedDeeds.{signed_join}
 use Rattle.clean_sessions.proofs.BoolTests.{both_true}
 use Rattle.clean_sessions.proofs.ChosenSigned.{chosen_signed}
 use Rattle.clean_sessions.proofs.DeliveriesCovered.{known_has}
@@ -34,15 +33,6 @@ use Rattle.clean_sessions.proofs.SignedStands.{one_more}
 use Rattle.clean_sessions.proofs.SigningTurns.{answered_once}
 
 -- ---- control numbers grow
-
-signed_join : (entries more : List Entry) → length (signed_texts entries) ≤ length (signed_texts (entries ++ more))
-signed_join entries more =
-    let parts = filter-append (λ (e : Entry). is_signed e.kind) entries more in
-    let all = ap (λ (l : List Entry). length (map (λ (e : Entry). e.payload) l)) parts in
-    let joined = length-map (filter (λ (e : Entry). is_signed e.kind) entries ++ filter (λ (e : Entry). is_signed e.kind) more) (λ (e : Entry). e.payload) in
-    let one = length-map (filter (λ (e : Entry). is_signed e.kind) entries) (λ (e : Entry). e.payload) in
-    let sum = length-append (filter (λ (e : Entry). is_signed e.kind) entries) (filter (λ (e : Entry). is_signed e.kind) more) in
-    omega (arith, all, joined, one, sum)
 
 answers_count : (role : Role) (chooser : Chooser) (numbers : List (List ℕ)) (old new : Desk) → InTurn (Answers role chooser) numbers old new → next_control old.entries ≤ next_control new.entries
 answers_count role chooser [] old new e = let same = ap (λ (d : Desk). next_control d.entries) e in omega (arith, same)

@@ -16,7 +16,7 @@ use Rattle.clean_sessions.specs.BlocksAlone.{blocks_alone}
 use Rattle.clean_sessions.specs.Courses.{Told}
 use Rattle.clean_sessions.specs.DeliveryStands.{AreLast, is_among, sets_in}
 use Rattle.clean_sessions.specs.SeatTurns.{AreOwnTurns, IsFresh, MeetForTurns, Seat, at_desk}
-use Rattle.clean_sessions.specs.SinceLast.{SpeakOnce, all_since, blocks_since, blocks_spoken_in, desk_behind, signed_since}
+use Rattle.clean_sessions.specs.SinceLast.{SpeakOnce, SpeakTwice, all_since, blocks_since, blocks_spoken_in, desk_behind, signed_since}
 use Rattle.clean_sessions.proofs.CoursesBehind.{deeds_grown}
 use Rattle.clean_sessions.proofs.CoursesFollowed.{fresh_told}
 use Rattle.clean_sessions.proofs.DeliveriesCovered.{known_has}
@@ -226,6 +226,13 @@ all_low (first ∷ more) near far sets text m (desk, load, turned, is, rest) = (
   λ number there. spoken_low near.header near.chooser (signs_sets near.header.role near.chooser m.near_drafts) near.desk far.desk desk sets text load m.between turned number (sym (ap (is_among number) is) ∙ there),
   all_low more far (at_desk near desk) (gathered near.header turned.proposed) load (meet_next near far sets text m desk load turned) rest,
 )
+
+low_twice : (turns : List (List DueSet)) (near far : Seat) (text : List ℕ) (t : AreOwnTurns turns near far text) → AreLow false turns near far text t → SpeakTwice turns near far text t
+low_twice [] near far text t low = tt
+low_twice (first ∷ more) near far text (desk, load, turned, is, rest) low = (low.0, low_twice more far (at_desk near desk) load rest low.1)
+
+pub speak_twice : (turns : List (List DueSet)) (near far : Seat) → MeetForTurns near far [] [] → (t : AreOwnTurns turns near far []) → SpeakTwice turns near far [] t
+speak_twice turns near far m t = low_twice turns near far [] t (all_low turns near far [] [] m t)
 
 none_low : (turns : List (List DueSet)) (near far : Seat) (text : List ℕ) (t : AreOwnTurns turns near far text) → SpeakOnce turns near far text t → AreLow true turns near far text t
 none_low [] near far text t o = tt

@@ -1,8 +1,8 @@
 -- The answer that an end chooses may be signed, where it can be written with nine digits.
-use Rattle.std.proofs.Common.{◌≡◌, ◌≤◌, ℕ, List, [], ◌∷◌, Option, Some, None, Result, Ok, Err, refl, sym, ap, subst, ◌∙◌, inr, arith}
+use Rattle.std.proofs.Common.{◌≡◌, ◌≤◌, ℕ, true, List, [], ◌∷◌, Option, Some, None, Result, Ok, Err, refl, sym, ap, subst, ◌∙◌, inr, arith}
 use Rattle.std.specs.Option.{option_and_then}
 use Rattle.std.proofs.lemmas.List.Elements.{All-nil}
-use Rattle.dsd_values.specs.SignatureRecord.{IsSignature, SignatureRecord}
+use Rattle.dsd_values.specs.SignatureRecord.{SignatureRecord}
 use Rattle.dsd_values.specs.declared.level.TheConstants.Level.{MAX as HIGHEST}
 use Rattle.dsd_values.specs.declared.line.Line.{Line}
 use Rattle.dsd_values.specs.declared.role.Role.{Role}
@@ -31,7 +31,7 @@ use Rattle.dsd_record.proofs.ReadOnce.{set_in_is}
 use Rattle.dsd_journal.specs.declared.entry.Entry.{Entry}
 use Rattle.delivery_book.specs.Answering.{answer_to}
 use Rattle.delivery_book.specs.Deeds.{deeds_of}
-use Rattle.delivery_book.specs.Lookups.{own_amount, seen_of}
+use Rattle.delivery_book.specs.Lookups.{awaits_us, own_amount, seen_of}
 use Rattle.delivery_book.specs.Signing.{Legal, next_control}
 use Rattle.delivery_book.specs.Standing.{version_at}
 use Rattle.delivery_book.proofs.Grown.{legal_founded, legal_more}
@@ -40,7 +40,7 @@ use Rattle.delivery_book.proofs.Signed.{to_applies}
 use Rattle.own_turn.specs.Choosing.{AnswersBy}
 use Rattle.own_turn.specs.OwnTurn.{signed}
 use Rattle.own_turn.proofs.Answering.{awaits_free}
-use Rattle.clean_sessions.specs.ChosenAnswers.{ChoosesRightly, IsChosenOn, MaySignIt, answer_by, nine_digits, priced_answer, signed_answer}
+use Rattle.clean_sessions.specs.ChosenAnswers.{ChoosesRightly, IsChosenOn, MaySignIt, answer_by, answer_of, nine_digits, priced_answer, signed_answer}
 use Rattle.clean_sessions.proofs.LowerControls.{answer_written_too}
 use Rattle.clean_sessions.proofs.NumberTexts.{IsNumber}
 use Rattle.clean_sessions.proofs.OwnSets.{IsSeenAt, seen_at}
@@ -52,77 +52,105 @@ levelled : (lines : List Line) (level : ℕ) → IsLevelled lines (answered_leve
 levelled [] level = tt
 levelled (line ∷ lines) level = omega arith
 
-module _ (role : Role) (chooser : Chooser) (entries : List Entry) (number : List ℕ) (version : Version) (answer : AnswerRecord) (right : ChoosesRightly chooser) (legal : Legal role entries) (few : next_control entries ≤ nine_digits)
-    (c : IsChosenOn role chooser entries number version answer) where
-  seen : IsSeenAt number entries version
-  seen = seen_at role number entries version legal c.awaits c.seen
+-- ---- what a chosen answer is made of
 
-  -- the answer with these lines may be stated
-  is_answer : (lines : List Line) (totals : Totals) (signature : SignatureRecord) → answer ≡ answer_to role version lines totals signature → AreSoundLines lines → IsPriceAfter version lines totals → IsSignature signature → IsAnswer answer
-  is_answer lines totals signature e sound price signed_is =
+module _ (role : Role) (chooser : Chooser) (entries : List Entry) (number : List ℕ) (version : Version) (answer : AnswerRecord) (right : ChoosesRightly chooser) (legal : Legal role entries)
+    (awaits : awaits_us entries number ≡ true) (is_seen : seen_of entries number ≡ Some version) where
+  seen : IsSeenAt number entries version
+  seen = seen_at role number entries version legal awaits is_seen
+
+  -- its lines at their price, and its signature
+  pub record IsMade : Type 0 where
+    pub lines : List Line
+    pub totals : Totals
+    pub signature : SignatureRecord
+    pub signs : chooser.signature number ≡ Some signature
+    pub is : answer ≡ answer_to role version lines totals signature
+    pub sound : AreSoundLines lines
+    pub price : IsPriceAfter version lines totals
+    pub answers : (text : List ℕ) → written_of (answer_to role version lines totals signature) (next_control entries) ≡ Ok text → AnswersBy (chooser.choice version (own_amount entries number)) role entries number signature text
+
+  by_price : (line : Line) (lines : List Line) (signature : SignatureRecord) (price : Result Totals ChangeFault) → price_with version (line ∷ lines) ≡ price → chooser.signature number ≡ Some signature
+      → chooser.choice version (own_amount entries number) ≡ Adjust (line ∷ lines) → priced_answer role version signature (line ∷ lines) price ≡ Some answer → IsMade
+  by_price line lines signature (Err fault) p has is e = absurd (cc)
+  by_price line lines signature (Ok totals) p has is e =
+      let sound : IsSoundChoice (Adjust (line ∷ lines)) = subst IsSoundChoice is (right.choices version (own_amount entries number) (record { sound = seen.right.each; apart = seen.right.sound.apart })) in
+      record {
+        lines = line ∷ lines;
+        totals = totals;
+        signature = signature;
+        signs = has;
+        is = sym (some_answer _ answer e);
+        sound = sound.1;
+        price = found_after version (line ∷ lines) (Ok totals) (inr (sym p));
+        answers = λ text written. subst (λ (x : Choice). AnswersBy x role entries number signature text) (sym is) (record { version = version; seen = is_seen; totals = totals; price = p; written = written });
+      }
+
+  by_choice : (choice : Choice) (signature : SignatureRecord) → chooser.signature number ≡ Some signature → chooser.choice version (own_amount entries number) ≡ choice → answer_by role version signature choice ≡ Some answer → IsMade
+  by_choice Accept signature has is e = record {
+    lines = [];
+    totals = version.totals;
+    signature = signature;
+    signs = has;
+    is = sym (some_answer _ answer e);
+    sound = record { sound = All-nil IsSoundLine; apart = tt };
+    price = record { few = seen.right.sound.limit; price = seen.right.price };
+    answers = λ text written. subst (λ (x : Choice). AnswersBy x role entries number signature text) (sym is) (record { version = version; seen = is_seen; written = written });
+  }
+  by_choice (Adjust []) signature has is e = absurd (cc)
+  by_choice (Adjust (line ∷ lines)) signature has is e = by_price line lines signature (price_with version (line ∷ lines)) refl has is e
+  by_choice Wait signature has is e = absurd (cc)
+
+  by_signature : (o : Option SignatureRecord) → chooser.signature number ≡ o → signed_answer role version o (chooser.choice version (own_amount entries number)) ≡ Some answer → IsMade
+  by_signature None has e = absurd (cc)
+  by_signature (Some signature) has e = by_choice (chooser.choice version (own_amount entries number)) signature has refl e
+
+  pub chosen_made : answer_of role chooser number version (own_amount entries number) ≡ Some answer → IsMade
+  chosen_made chosen = by_signature (chooser.signature number) refl chosen
+
+  -- the answer may be stated
+  pub chosen_stated : IsMade → answer.level ≤ HIGHEST → IsAnswer answer
+  chosen_stated m low =
       let its = subst IsNumber (sym seen.its) seen.number_is in
-      let level : answered_level lines version.level ≤ HIGHEST = subst (λ (a : AnswerRecord). a.level ≤ HIGHEST) e c.level in
-      subst IsAnswer (sym e) (made_answer _ lines totals signature
+      let level : answered_level m.lines version.level ≤ HIGHEST = subst (λ (a : AnswerRecord). a.level ≤ HIGHEST) m.is low in
+      subst IsAnswer (sym m.is) (made_answer _ m.lines m.totals m.signature
       (record {
         number = record { characters = its.plain; filled = its.some; short = its.short };
         check = seen.check;
         level = level;
         receiver_number = record { characters = refl; short = omega arith };
       })
-      sound (few_priced version lines totals sound price) (levelled lines version.level) (small_priced version lines totals seen.right sound price)
-      (amount_low (changed version.lines lines) version.extras totals price.price) signed_is)
+      m.sound (few_priced version m.lines m.totals m.sound m.price) (levelled m.lines version.level) (small_priced version m.lines m.totals seen.right m.sound m.price)
+      (amount_low (changed version.lines m.lines) version.extras m.totals m.price.price) (right.signatures number m.signature m.signs))
 
-  -- the lines of the choice at their price, and what else it takes to sign it
-  signable : (choice : Choice) (lines : List Line) (totals : Totals) (signature : SignatureRecord) → chooser.signature number ≡ Some signature → chooser.choice version (own_amount entries number) ≡ choice
-      → answer ≡ answer_to role version lines totals signature → AreSoundLines lines → IsPriceAfter version lines totals
-      → ((text : List ℕ) → written_of (answer_to role version lines totals signature) (next_control entries) ≡ Ok text → AnswersBy choice role entries number signature text) → MaySignIt role chooser entries number answer
-  signable choice lines totals signature has is e sound price answers =
-      let given = is_answer lines totals signature e sound price (right.signatures number signature has) in
-      let too = answer_written_too answer answer.check (next_control entries) c.text few c.written in
-      let back = written_back answer (next_control entries) too.0 few given too.1 in
-      let same : answer.number ≡ number = ap (λ (a : AnswerRecord). a.number) e ∙ seen.its in
-      let ready : IsReady answer.number (deeds_of entries) = subst (λ (n : List ℕ). IsReady n (deeds_of entries)) (sym same) (is_ready number (deeds_of entries) (awaits_free entries number c.awaits)) in
-      let at : seen_of entries answer.number ≡ Some version = ap (seen_of entries) same ∙ c.seen in
-      let made : version_at (deeds_of entries) ready.top ≡ Some version = sym (ap (option_and_then (version_at (deeds_of entries))) ready.is_top) ∙ at in
-      let applies = subst (λ (a : AnswerRecord). Applies version a) (sym e) (to_applies role version lines totals signature price) in
-      let allows = signs_answer role entries (legal_founded role entries legal) answer (seal_of answer (next_control entries)) too.0 ready version made applies (ap (λ (a : AnswerRecord). a.role) e) c.level back.spelled too.1 in
-      record {
-        text = too.0;
-        may = record {
-          chosen = record {
-            awaits = c.awaits;
-            version = version;
-            seen = c.seen;
-            signature = signature;
-            signs = has;
-            answers = subst (λ (x : Choice). AnswersBy x role entries number signature too.0) (sym is) (answers too.0 (ap (λ (a : AnswerRecord). written_of a (next_control entries)) (sym e) ∙ too.1));
-          };
-          legal = legal_more role entries (signed too.0) legal allows;
+-- ---- it may be signed
+
+pub chosen_signed : (role : Role) (chooser : Chooser) (entries : List Entry) (number : List ℕ) (version : Version) (answer : AnswerRecord) → ChoosesRightly chooser → Legal role entries → next_control entries ≤ nine_digits
+    → IsChosenOn role chooser entries number version answer → MaySignIt role chooser entries number answer
+chosen_signed role chooser entries number version answer right legal few c =
+    let m = chosen_made role chooser entries number version answer right legal c.awaits c.seen c.chosen in
+    let given = chosen_stated role chooser entries number version answer right legal c.awaits c.seen m c.level in
+    let too = answer_written_too answer answer.check (next_control entries) c.text few c.written in
+    let back = written_back answer (next_control entries) too.0 few given too.1 in
+    let its = (seen_at role number entries version legal c.awaits c.seen).its in
+    let same : answer.number ≡ number = ap (λ (a : AnswerRecord). a.number) m.is ∙ its in
+    let ready : IsReady answer.number (deeds_of entries) = subst (λ (n : List ℕ). IsReady n (deeds_of entries)) (sym same) (is_ready number (deeds_of entries) (awaits_free entries number c.awaits)) in
+    let at : seen_of entries answer.number ≡ Some version = ap (seen_of entries) same ∙ c.seen in
+    let made : version_at (deeds_of entries) ready.top ≡ Some version = sym (ap (option_and_then (version_at (deeds_of entries))) ready.is_top) ∙ at in
+    let applies = subst (λ (a : AnswerRecord). Applies version a) (sym m.is) (to_applies role version m.lines m.totals m.signature m.price) in
+    let allows = signs_answer role entries (legal_founded role entries legal) answer (seal_of answer (next_control entries)) too.0 ready version made applies (ap (λ (a : AnswerRecord). a.role) m.is) c.level back.spelled too.1 in
+    record {
+      text = too.0;
+      may = record {
+        chosen = record {
+          awaits = c.awaits;
+          version = version;
+          seen = c.seen;
+          signature = m.signature;
+          signs = m.signs;
+          answers = m.answers too.0 (ap (λ (a : AnswerRecord). written_of a (next_control entries)) (sym m.is) ∙ too.1);
         };
-        is = set_in_is too.0 (sets.Answer answer (seal_of answer (next_control entries))) back.spelled;
-      }
-
-  -- ---- by the choice
-
-  by_price : (line : Line) (lines : List Line) (signature : SignatureRecord) (price : Result Totals ChangeFault) → price_with version (line ∷ lines) ≡ price → chooser.signature number ≡ Some signature
-      → chooser.choice version (own_amount entries number) ≡ Adjust (line ∷ lines) → priced_answer role version signature (line ∷ lines) price ≡ Some answer → MaySignIt role chooser entries number answer
-  by_price line lines signature (Err fault) p has is e = absurd (cc)
-  by_price line lines signature (Ok totals) p has is e =
-      let sound : IsSoundChoice (Adjust (line ∷ lines)) = subst IsSoundChoice is (right.choices version (own_amount entries number) (record { sound = seen.right.each; apart = seen.right.sound.apart })) in
-      signable (Adjust (line ∷ lines)) (line ∷ lines) totals signature has is (sym (some_answer _ answer e)) sound.1 (found_after version (line ∷ lines) (Ok totals) (inr (sym p)))
-      (λ text written. record { version = version; seen = c.seen; totals = totals; price = p; written = written })
-
-  by_choice : (choice : Choice) (signature : SignatureRecord) → chooser.signature number ≡ Some signature → chooser.choice version (own_amount entries number) ≡ choice → answer_by role version signature choice ≡ Some answer → MaySignIt role chooser entries number answer
-  by_choice Accept signature has is e =
-      signable Accept [] version.totals signature has is (sym (some_answer _ answer e)) (record { sound = All-nil IsSoundLine; apart = tt }) (record { few = seen.right.sound.limit; price = seen.right.price })
-      (λ text written. record { version = version; seen = c.seen; written = written })
-  by_choice (Adjust []) signature has is e = absurd (cc)
-  by_choice (Adjust (line ∷ lines)) signature has is e = by_price line lines signature (price_with version (line ∷ lines)) refl has is e
-  by_choice Wait signature has is e = absurd (cc)
-
-  by_signature : (o : Option SignatureRecord) → chooser.signature number ≡ o → signed_answer role version o (chooser.choice version (own_amount entries number)) ≡ Some answer → MaySignIt role chooser entries number answer
-  by_signature None has e = absurd (cc)
-  by_signature (Some signature) has e = by_choice (chooser.choice version (own_amount entries number)) signature has refl e
-
-  pub chosen_signed : MaySignIt role chooser entries number answer
-  chosen_signed = by_signature (chooser.signature number) refl c.chosen
+        legal = legal_more role entries (signed too.0) legal allows;
+      };
+      is = set_in_is too.0 (sets.Answer answer (seal_of answer (next_control entries))) back.spelled;
+    }

@@ -52,7 +52,7 @@ none_yet : (deeds : List Deed) → AllPropose deeds → accepts_in deeds ≡ fal
 none_yet deeds all = ap (λ (l : List Deed). is_some (first_of l)) (none_accepting deeds all)
 
 -- a legal list whose deeds of the delivery go on behind these has no acceptance among these
-early : (role : Role) (number : List ℕ) (entries : List Entry) (front : List Deed) (next : Deed) (more : List Deed) → Legal role entries → of_delivery number (deeds_of entries) ≡ front ++ next ∷ more → accepts_in front ≡ false
+pub early : (role : Role) (number : List ℕ) (entries : List Entry) (front : List Deed) (next : Deed) (more : List Deed) → Legal role entries → of_delivery number (deeds_of entries) ≡ front ++ next ∷ more → accepts_in front ≡ false
 early role number entries front next more legal e = by (legal_laid role entries number legal)
   where
     never : (l : List Deed) → l ++ next ∷ more ≡ [] → ⊥

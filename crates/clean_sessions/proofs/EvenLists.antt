@@ -57,7 +57,7 @@ module _ (role : Role) (number : List ℕ) (one other : List Entry) (b : AreBack
   abbrev theirs : List Deed
   theirs = of_delivery number (deeds_of other)
 
-  mirrors : theirs ≡ map mirrored mine
+  pub mirrors : theirs ≡ map mirrored mine
   mirrors = by (lists_meet role one other number b)
     where
       by : Meet mine theirs → theirs ≡ map mirrored mine

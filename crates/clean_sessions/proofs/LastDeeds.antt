@@ -176,7 +176,7 @@ kind_side role (suc n) =
 
 -- ---- the highest proposal is the last one
 
-level_is : (deed : Deed) → proposes deed.set ≡ true → place_of deed ≡ level_in deed.set
+pub level_is : (deed : Deed) → proposes deed.set ≡ true → place_of deed ≡ level_in deed.set
 level_is deed e = ap (λ (t : Bool). cond t (level_in deed.set) (level_in deed.set + 1)) e
 
 not_below : (a b : ℕ) → b ≤ a → nat_lt a b ≡ false
@@ -195,7 +195,7 @@ last_highest kind n (deed ∷ front) last turns all proposal =
     ap (λ (o : Option Deed). let r : Option Deed = Some (higher deed o) in r) (last_highest (other_kind kind) (n + 1) front last turns.2 all.1 proposal)
     ∙ ap (λ (d : Deed). let r : Option Deed = Some d in r) (higher_last deed last (omega (arith, at, here, level, first)))
 
-all_and_last : (front : List Deed) (last : Deed) → AllPropose front → proposes last.set ≡ true → AllPropose (front ++ last ∷ [])
+pub all_and_last : (front : List Deed) (last : Deed) → AllPropose front → proposes last.set ≡ true → AllPropose (front ++ last ∷ [])
 all_and_last [] last all proposal = (proposal, tt)
 all_and_last (deed ∷ front) last all proposal = (all.0, all_and_last front last all.1 proposal)
 

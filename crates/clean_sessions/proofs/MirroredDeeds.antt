@@ -26,7 +26,7 @@ twice_mirrored deed = ap (λ (k : EntryKind). let d : Deed = record { kind = k; 
 
 -- ---- what is looked up by the sets alone
 
-filter_mirrored : (f : SetView → Bool) (deeds : List Deed) → filter (λ (d : Deed). f d.set) (map mirrored deeds) ≡ map mirrored (filter (λ (d : Deed). f d.set) deeds)
+pub filter_mirrored : (f : SetView → Bool) (deeds : List Deed) → filter (λ (d : Deed). f d.set) (map mirrored deeds) ≡ map mirrored (filter (λ (d : Deed). f d.set) deeds)
 filter_mirrored f [] = refl
 filter_mirrored f (deed ∷ deeds) = by (f deed.set) (filter_mirrored f deeds)
   where
@@ -35,7 +35,7 @@ filter_mirrored f (deed ∷ deeds) = by (f deed.set) (filter_mirrored f deeds)
     by true e = ap (λ (l : List Deed). mirrored deed ∷ l) e
     by false e = e
 
-of_mirrored : (number : List ℕ) (deeds : List Deed) → of_delivery number (map mirrored deeds) ≡ map mirrored (of_delivery number deeds)
+pub of_mirrored : (number : List ℕ) (deeds : List Deed) → of_delivery number (map mirrored deeds) ≡ map mirrored (of_delivery number deeds)
 of_mirrored number deeds = filter_mirrored (λ (set : SetView). bytes_eq (number_in set) number) deeds
 
 proposals_mirrored : (number : List ℕ) (deeds : List Deed) → proposals number (map mirrored deeds) ≡ map mirrored (proposals number deeds)
@@ -55,7 +55,7 @@ higher_mirrored deed (Some later) = by (is_below later deed)
     by true = refl
     by false = refl
 
-highest_mirrored : (deeds : List Deed) → highest (map mirrored deeds) ≡ option_map mirrored (highest deeds)
+pub highest_mirrored : (deeds : List Deed) → highest (map mirrored deeds) ≡ option_map mirrored (highest deeds)
 highest_mirrored [] = refl
 highest_mirrored (deed ∷ deeds) =
     ap (λ (o : Option Deed). let r : Option Deed = Some (higher (mirrored deed) o) in r) (highest_mirrored deeds)
@@ -110,7 +110,7 @@ behind_alike : (o : Option Deed) (below other : ℕ → Option Chain) → ((chec
 behind_alike None below other same = refl
 behind_alike (Some deed) below other same = longer_alike deed.set below other same
 
-chain_mirrored : (number : List ℕ) (deeds : List Deed) (level check : ℕ) → chain_to number (map mirrored deeds) level check ≡ chain_to number deeds level check
+pub chain_mirrored : (number : List ℕ) (deeds : List Deed) (level check : ℕ) → chain_to number (map mirrored deeds) level check ≡ chain_to number deeds level check
 chain_mirrored number deeds zero check = ap chain_at_base (named_mirrored number 0 check deeds) ∙ base_alike (named_of number 0 check deeds)
 chain_mirrored number deeds (suc level) check =
     ap (λ (o : Option Deed). chain_behind o (chain_to number (map mirrored deeds) level)) (named_mirrored number (suc level) check deeds)

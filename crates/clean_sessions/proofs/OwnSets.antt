@@ -7,6 +7,7 @@ use Rattle.dsd_values.specs.SignatureRecord.{SignatureRecord}
 use Rattle.dsd_values.specs.declared.line.Line.{Line}
 use Rattle.dsd_values.specs.declared.role.Role.{Role}
 use Rattle.dsd_pricing.specs.declared.amounts.Totals.{Totals}
+use Rattle.segments.specs.declared.seal.Seal.{Seal}
 use Rattle.base_record_894.specs.BaseRecord.{BaseRecord}
 use Rattle.base_record_894.specs.RecordText.{IsBase}
 use Rattle.adjustment_895.specs.AnswerRecord.{AnswerRecord}
@@ -105,15 +106,26 @@ module _ (role : Role) (entries : List Entry) (number text : List ℕ) (legal : 
   answer_level : answer.level ≡ (if has_none lines then level_in seen.top.set else level_in seen.top.set + 1)
   answer_level = ap (λ (n : ℕ). if has_none lines then n else n + 1) seen.level
 
+  low_by : (other : AnswerRecord) (seal : Seal) → IsSet (sets.Answer other seal) text → written_of other (next_control entries) ≡ Ok text → answer.level < 10
+  low_by other seal is right =
+      let lower = level_low other seal text is in
+      let plain = answer_number other seal text is in
+      let high : answer.level ≤ 10 = subst (λ (n : ℕ). n ≤ 10) (sym answer_level) (level_most (has_none lines) (level_in seen.top.set) seen.low) in
+      below_ten answer.level high (λ ten. ten_apart answer other (next_control entries) text written right ten (omega (arith, lower)) own_number.plain plain.plain)
+
+  low_set : (set : SetView) → IsSet set text → SignsRightly role entries set text → answer.level < 10
+  low_set (sets.Base base seal) is right = absurd (sets_apart base answer (next_control entries) (next_control entries) text right.written written)
+  low_set (sets.Answer other seal) is right = low_by other seal is right.written
+
+  pub own_level : answer.level < 10
+  own_level = let a = legal_last role entries (signed text) stays in low_set a.set a.is_set a.signed
+
   by_set : (set : SetView) → IsSet set text → AllowsSet role (deeds_of entries) Signed set → SignsRightly role entries set text → IsOwnSet number (has_none lines) text
   by_set (sets.Base base seal) is allowed right = absurd (sets_apart base answer (next_control entries) (next_control entries) text right.written written)
   by_set (sets.Answer other seal) is allowed right =
       let lower = level_low other seal text is in
       let plain = answer_number other seal text is in
-      let high : answer.level ≤ 10 = subst (λ (n : ℕ). n ≤ 10) (sym answer_level) (level_most (has_none lines) (level_in seen.top.set) seen.low) in
-      let low : answer.level < 10 =
-      below_ten answer.level high (λ ten. ten_apart answer other (next_control entries) text written right.written ten (omega (arith, lower)) own_number.plain plain.plain) in
-      let same = answers_same answer other (next_control entries) text written right.written low (omega (arith, lower)) own_number plain in
+      let same = answers_same answer other (next_control entries) text written right.written (low_by other seal is right.written) (omega (arith, lower)) own_number plain in
       let its : other.number ≡ number = sym same.0 ∙ seen.its in
       let top : allowed.highest ≡ seen.top = some_same allowed.highest seen.top (sym allowed.is_highest ∙ ap (λ (n : List ℕ). highest_of n (deeds_of entries)) its ∙ seen.is) in
       let levels : (if has_none lines then level_in seen.top.set else level_in seen.top.set + 1) ≡ (if has_none other.lines then level_in seen.top.set else level_in seen.top.set + 1) =

@@ -42,10 +42,10 @@ check_small text check e =
 
 -- ---- the segments behind a part
 
-record Reached (rest : Shape) : Type 0 where
-  before : List Seg
-  left : List Seg
-  there : rest before left
+pub record Reached (rest : Shape) : Type 0 where
+  pub before : List Seg
+  pub left : List Seg
+  pub there : rest before left
 
 one_passed : (form : Form) (kind : Kind) (Says : List Seg → Seg → Type 0) (rest : Shape) (before segs : List Seg) → One form kind Says rest before segs → Reached rest
 one_passed form kind Says rest before [] s = absurd s
@@ -89,19 +89,24 @@ closed_check form t before (one ∷ []) (_, _, s) = absurd s
 closed_check form t before (one ∷ two ∷ []) (_, _, (_, _, s)) = absurd s
 closed_check form t before (one ∷ two ∷ three ∷ segs) (_, _, (_, _, (_, i, _))) = check_small (element_of three 1) t.check i.0
 
-behind_check : (form : Form) (texts : List (List ℕ)) (lines : List Line) (extras : List Extra) (t : Shared) (before segs : List Seg) → BehindHead form texts lines extras t before segs → t.check < 2 ^ 16
-behind_check form texts lines extras t before segs s =
+behind_closing : (form : Form) (texts : List (List ℕ)) (lines : List Line) (extras : List Extra) (t : Shared) (before segs : List Seg) → BehindHead form texts lines extras t before segs → Reached (Closing form t)
+behind_closing form texts lines extras t before segs s =
     let a = references_passed form texts (Body form lines extras t) before segs s in
     let b = loop_passed form lines (Record form extras (Closing form t)) a.before a.left a.there in
-    let c = record_passed form extras (Closing form t) b.before b.left b.there in
-    closed_check form t c.before c.left c.there
+    record_passed form extras (Closing form t) b.before b.left b.there
+
+pub closing_of : (form : Form) (texts : List (List ℕ)) (lines : List Line) (extras : List Extra) (t : Shared) (First Head : List Seg → Seg → Type 0) (segs : List Seg)
+    → One form kinds.Start First (One form kinds.Head Head (BehindHead form texts lines extras t)) [] segs → Reached (Closing form t)
+closing_of form texts lines extras t First Head segs s =
+    let a = one_passed form kinds.Start First (One form kinds.Head Head (BehindHead form texts lines extras t)) [] segs s in
+    let b = one_passed form kinds.Head Head (BehindHead form texts lines extras t) a.before a.left a.there in
+    behind_closing form texts lines extras t b.before b.left b.there
 
 headed : (form : Form) (texts : List (List ℕ)) (lines : List Line) (extras : List Extra) (t : Shared) (First Head : List Seg → Seg → Type 0) (segs : List Seg)
     → One form kinds.Start First (One form kinds.Head Head (BehindHead form texts lines extras t)) [] segs → t.check < 2 ^ 16
 headed form texts lines extras t First Head segs s =
-    let a = one_passed form kinds.Start First (One form kinds.Head Head (BehindHead form texts lines extras t)) [] segs s in
-    let b = one_passed form kinds.Head Head (BehindHead form texts lines extras t) a.before a.left a.there in
-    behind_check form texts lines extras t b.before b.left b.there
+    let c = closing_of form texts lines extras t First Head segs s in
+    closed_check form t c.before c.left c.there
 
 pub set_check : (set : SetView) (text : List ℕ) → IsSet set text → check_in set < 2 ^ 16
 set_check (sets.Base base seal) text is = headed forms.Base base.references base.lines base.extras (base_shared base seal is.amount) (λ _ seg. IsStart seal.control seg) (λ _ seg. IsBaseHead base seg) is.segments is.shape

@@ -42,6 +42,7 @@ pub record IsChain (more : List Spoken) (first second : Bool) (near far : Seat) 
   pub silent : EndSilentBehind first second turns near far text taken
   pub ends : EndsWhenSilent second turns
   pub alone : all_alone (map turn_of more) ≡ blocks_spoken_in turns
+  pub sets : map (λ (spoken : Spoken). spoken.sets) more ≡ map texts_of turns
   pub desks : (own : Bool) → (post_behind own more new).standing.desk ≡ desk_behind (not own) turns near far text taken
 
 both_of : (a b : Bool) → (a && b) ≡ true → (b ≡ true) × (a ≡ true)
@@ -60,6 +61,7 @@ last_chain owner hearer text old new l both =
       silent = both_of (has_none text) owner.empty both;
       ends = tt;
       alone = refl;
+      sets = refl;
       desks = desks l.costs.desk done.desk;
     }
   where
@@ -101,6 +103,7 @@ module _ (header : Header) (chooser : Chooser) (old : Desk) (far : Seat) (text l
           subst (λ (b : Bool). EndsWhenSilent b c.turns) (sym alike) c.ends,
         );
         alone = let here = ap blocks_alone same in let rest = c.alone in omega (arith, here, rest);
+        sets = ap (λ (l : List (List ℕ)). l ∷ map (λ (s : Spoken). s.sets) more) same ∙ ap (λ (l : List (List (List ℕ))). texts_of spoken_sets ∷ l) c.sets;
         desks = desks c;
       }
     where

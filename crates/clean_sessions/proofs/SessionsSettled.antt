@@ -34,13 +34,13 @@ use Rattle.clean_sessions.proofs.TurnsEnding.{turns_end}
 module _ (id other : List ℕ) (supplier receiver : Chooser) (supplier_entries receiver_entries : List Entry) (first : Spoken) (more : List Spoken) (new : Hall)
     (is : IsId id) (others : IsId other) (drafts : All IsBase supplier.drafts) (their_drafts : All IsBase receiver.drafts) (backed : AreBacked Supplier supplier_entries receiver_entries)
     (c : IsCleanSession id other supplier receiver supplier_entries receiver_entries first more new) where
-  abbrev near : Seat
+  abbrev pub near : Seat
   near = seat_before (supplier_header id other) supplier supplier_entries
 
-  abbrev far : Seat
+  abbrev pub far : Seat
   far = seat_before (receiver_header id other) receiver receiver_entries
 
-  meet : MeetForTurns near far [] []
+  pub meet : MeetForTurns near far [] []
   meet = record { roles = refl; near_drafts = drafts; far_drafts = their_drafts; between = record { lists = backed; heard = record { lends = refl; last = tt } } }
 
   behind_ready : IsReady (at_desk near c.desk)
@@ -53,7 +53,7 @@ module _ (id other : List ℕ) (supplier receiver : Chooser) (supplier_entries r
   far_ready : IsReady far
   far_ready = record { own = others.ten; peer = is.ten; turns = omega arith }
 
-  later : IsChain more false (has_none first.text) far (at_desk near c.desk) first.text new
+  pub later : IsChain more false (has_none first.text) far (at_desk near c.desk) first.text new
   later =
       let t = texts_begun id other is others supplier receiver supplier_entries receiver_entries c.middle c.headers in
       let same = one_turn (supplier_header id other) supplier near.desk [] t.desk c.desk t.load first.text t.turned c.turned in
@@ -65,10 +65,10 @@ module _ (id other : List ℕ) (supplier receiver : Chooser) (supplier_entries r
       (subst (λ (s : Seat). IsChain more false (has_none first.text) s (seat_of c.middle.far) first.text new) near_seat
       (chain more (supplier_ready id other) (receiver_ready id other) first.text c.middle new begins (subst IsReady (sym near_seat) far_ready) (subst IsReady (sym far_seat) behind_ready) c.turns))
 
-  abbrev first_sets : List DueSet
+  abbrev pub first_sets : List DueSet
   first_sets = gathered (supplier_header id other) c.turned.proposed
 
-  abbrev all_turns : AreOwnTurns (first_sets ∷ later.turns) near far []
+  abbrev pub all_turns : AreOwnTurns (first_sets ∷ later.turns) near far []
   all_turns = (c.desk, first.text, c.turned, refl, later.taken)
 
   two_silent : (turns : List (List DueSet)) (t : AreOwnTurns turns far (at_desk near c.desk) first.text) → (has_none first.text ≡ true → NothingDue c.turned.proposed)

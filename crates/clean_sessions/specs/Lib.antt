@@ -18,3 +18,5 @@ pub mod CourseTurns
 pub mod Settled
 pub mod SinceLast
 pub mod Declining
+pub mod Talks
+pub mod TalkedSets

@@ -1,5 +1,5 @@
 -- What an end has signed of its deliveries from the last set of each before a session on, in blocks; and what is spoken in own turns, in blocks.
-use Rattle.std.specs.Prelude.{◌≡◌, ℕ, ◌+◌, ◌-◌, Bool, true, false, not, List, [], ◌∷◌, length, drop, map, ⊤}
+use Rattle.std.specs.Prelude.{All, Contains, ◌≡◌, ◌≤◌, ℕ, ◌+◌, ◌-◌, Bool, true, false, not, List, [], ◌∷◌, length, drop, map, ⊤}
 use Rattle.dsd_journal.specs.declared.entry.Entry.{Entry}
 use Rattle.delivery_book.specs.Deeds.{Deed, deeds_of, signed_of}
 use Rattle.delivery_book.specs.Lookups.{numbers_of}
@@ -46,3 +46,17 @@ desk_behind own (first ∷ more) near far text t = desk_behind (not own) more fa
 abbrev pub SpeakOnce : (turns : List (List DueSet)) → (near far : Seat) → (text : List ℕ) → AreOwnTurns turns near far text → Type 0
 SpeakOnce [] near far text t = ⊤
 SpeakOnce (first ∷ more) near far text t = ((number : List ℕ) → is_among number first ≡ true → (told_in number t.2.proposed).times ≡ 0) × SpeakOnce more far (at_desk near t.0) t.1 t.4
+
+-- or once since then at most: so no set is spoken a third time
+abbrev pub SpeakTwice : (turns : List (List DueSet)) → (near far : Seat) → (text : List ℕ) → AreOwnTurns turns near far text → Type 0
+SpeakTwice [] near far text t = ⊤
+SpeakTwice (first ∷ more) near far text t = ((number : List ℕ) → is_among number first ≡ true → (told_in number t.2.proposed).times ≤ 1) × SpeakTwice more far (at_desk near t.0) t.1 t.4
+
+-- the text is that of a set of its delivery that this end has signed, from the last one of those before on
+abbrev pub IsSince : List Entry → List Entry → DueSet → Type 0
+IsSince old new set = Contains (map (λ (deed : Deed). deed.text) (from_last (length (signed_of set.number (deeds_of old))) (signed_of set.number (deeds_of new)))) set.text
+
+-- each set that is spoken in them is such a one of its speaker, which had these entries before
+abbrev pub SpeakSince : (own theirs : List Entry) → (turns : List (List DueSet)) → (near far : Seat) → (text : List ℕ) → AreOwnTurns turns near far text → Type 0
+SpeakSince own theirs [] near far text t = ⊤
+SpeakSince own theirs (first ∷ more) near far text t = All (IsSince own (desk_behind false more far (at_desk near t.0) t.1 t.4).entries) first × SpeakSince theirs own more far (at_desk near t.0) t.1 t.4

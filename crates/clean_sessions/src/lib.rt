@@ -20,13 +20,19 @@
 //! without a block, is such a row of own turns: so all this is said of it, and how many turns it has at most.
 //!
 //! What an end chooses for a delivery that awaits it is signed in that very turn, where it can be written with nine digits of
-//! a control number; and neither core looks at integrity values.
+//! a control number. Both cores choose rightly, as these laws ask, and neither looks at integrity values.
 //!
-//! What they do not say yet: which sets the choices of both ends lead to, before a session is played. That a world makes
-//! these steps in a clean event is a law of `clean_worlds`.
+//! Before a session is played each delivery of both lists has one talk, by both choosers: the sets that are known of it, and those
+//! that one end and the other will still say, each its answer to the last, until one accepts or declines. A clean session says
+//! these, and no more but behind an end that declines a set which is too long with nine digits of a control number alone. A
+//! delivery whose talk ends in an acceptance is final at both, and where neither end ever waits all deliveries are.
+//!
+//! That a world makes these steps in a clean event is a law of `clean_worlds`.
 #![tactic(auto)]
 
 mod block_laws;
+mod clean_talk_laws;
+mod core_laws;
 mod course_laws;
 mod delivery_laws;
 mod line_laws;
@@ -35,6 +41,8 @@ mod talk_laws;
 mod turn_laws;
 
 pub use block_laws::{envelopes_cost_two_blocks, shorter_units_are_fewer_blocks, units_of_joins};
+pub use clean_talk_laws::{clean_talks, deliveries_have_one_talk, ends_that_never_wait_settle_all};
+pub use core_laws::{counts_choose_rightly, drafts_choose_rightly};
 pub use course_laws::{
     blocks_run_out, courses_are_done, deeds_take_turns, lists_are_fronts, lists_have_one_course,
     sets_are_spoken_once, turns_keep_places, turns_run_out,
