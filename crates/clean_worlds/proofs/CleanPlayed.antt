@@ -29,7 +29,7 @@ use Rattle.clean_worlds.proofs.NotedParts.{split_made}
 use Rattle.clean_worlds.proofs.Opened.{Begins, OpensWell}
 use Rattle.clean_worlds.proofs.SessionPlayed.{session_played}
 
-after_more : (role : Role) (state : State) (a b : List WorldStep) → state_after role state (a ++ b) ≡ state_after role (state_after role state a) b
+pub after_more : (role : Role) (state : State) (a b : List WorldStep) → state_after role state (a ++ b) ≡ state_after role (state_after role state a) b
 after_more role state [] b = refl
 after_more role state (step ∷ a) b = after_more role (behind_if (same_role role step.role) state step) a b
 

@@ -8,12 +8,13 @@ use Rattle.dsd_station.specs.declared.call.Call.{Call}
 use Rattle.dsd_station.specs.declared.call.Call.TheVariants.{Attach, Size, Read, Write, Sync, Listen, Speak, Restart}
 use Rattle.dsd_station.specs.declared.call.Reception.{Reception}
 use Rattle.dsd_station.specs.ByPlan.{due_by}
+use Rattle.dsd_station.specs.Failures.{failed_in}
 use Rattle.dsd_station.specs.Heard.{answers_in}
 use Rattle.dsd_station.specs.Logged.{Log}
 use Rattle.dsd_station.specs.Placed.{EachFedBy}
 use Rattle.dsd_station.specs.Planned.{Due}
 use Rattle.dsd_station.specs.Plans.{after_restart}
-use Rattle.dsd_station.specs.Replayed.{State}
+use Rattle.dsd_station.specs.Replayed.{State, state_of}
 use Rattle.dsd_station.proofs.Planning.{due_by_none}
 use Rattle.dsd_journal.specs.JournalImage.{Holds}
 use Rattle.dsd_journal.specs.declared.entry.Entry.{Entry}
@@ -30,21 +31,22 @@ use Rattle.cable_world.specs.Noted.{Noted, kind_of, runs_by, step_of}
 use Rattle.cable_world.specs.Obeying.{Makes}
 use Rattle.cable_world.specs.Scenes.{Scene, Side, due, restarted, sent_to, side, side_stepped, stepped}
 use Rattle.cable_world.specs.Steps.{Opening, Poll, StepKind, frames_in, other, same_role}
+use Rattle.cable_world.proofs.Unarmed.{left_restarted}
 use Rattle.cable_world.specs.declared.answer.Answer.{Answer}
 use Rattle.cable_world.specs.declared.answer.Answer.TheVariants as answers
 use Rattle.clean_worlds.specs.WholeFrames.{GoesWell, is_fault}
 use Rattle.clean_worlds.proofs.FramesSaid.{part_says, same_frames}
 use Rattle.clean_worlds.proofs.Pieces.{AreHeard, are_heard}
 use Rattle.clean_worlds.proofs.PolledOnce.{follows_own, polls_well}
-use Rattle.clean_worlds.proofs.Stepped.{played_due, played_fed, stepped_other, stepped_own, stepped_waiting}
+use Rattle.clean_worlds.proofs.Stepped.{played_due, played_fed, stepped_other, stepped_own, stepped_waiting, works_played}
 
 -- ---- a station that restarts
 
-restarted_own : (role : Role) (scene : Scene) → side (restarted scene role) role ≡ record (side scene role) { log = after_restart (side scene role).log }
+pub restarted_own : (role : Role) (scene : Scene) → side (restarted scene role) role ≡ record (side scene role) { log = after_restart (side scene role).log }
 restarted_own Supplier scene = refl
 restarted_own Receiver scene = refl
 
-restarted_other : (role : Role) (scene : Scene) → side (restarted scene role) (other role) ≡ side scene (other role)
+pub restarted_other : (role : Role) (scene : Scene) → side (restarted scene role) (other role) ≡ side scene (other role)
 restarted_other Supplier scene = refl
 restarted_other Receiver scene = refl
 
@@ -66,15 +68,16 @@ opening_silent (Speak bytes outcome ∷ part) may = absurd may.0
 opening_silent (Restart ∷ part) may = absurd may.0
 
 -- it has answered Ok
-record Opens (header : Header) (journal : List ℕ) (answer : Answer) (after : Option Standing) : Type 0 where
+record Opens (header : Header) (journal : List ℕ) (answer : Answer) (part : List Call) (after : Option Standing) : Type 0 where
   entries : List Entry
   holds : Holds header entries journal
   stands : after ≡ Some (first_standing header entries)
   runs : runs_by answer ≡ true
+  fine : failed_in part ≡ 0
 
 opens : (chooser : Chooser) (header : Header) (journal : List ℕ) (answer : Answer) (part : List Call) (before after : Option Standing) → kind_of answer ≡ Opening → is_fault answer ≡ false
-    → Follows chooser header journal answer part before after → Opens header journal answer after
-opens chooser header journal answers.Opened part before after kind fine (entries, holds, stands) = record { entries = entries; holds = holds; stands = stands; runs = refl }
+    → Follows chooser header journal answer part before after → Opens header journal answer part after
+opens chooser header journal answers.Opened part before after kind fine (entries, holds, stands, calls) = record { entries = entries; holds = holds; stands = stands; runs = refl; fine = calls }
 opens chooser header journal (answers.NotOpened fault) part before after kind fine follows = absurd (cc)
 opens chooser header journal answers.Running part before after kind fine follows = let no : false ≡ true = ap is_opening kind in absurd (cc)
 opens chooser header journal (answers.Ended end) part before after kind fine follows = let no : false ≡ true = ap is_opening kind in absurd (cc)
@@ -88,6 +91,7 @@ pub record Leaves (role : Role) (header : Header) (journal : List ℕ) (scene ne
   pub runs : (side new role).runs ≡ true
   pub fed : EachFedBy (length (side new role).log.calls) (side new role).log.plan.fed
   pub taken : due (side new role) ≡ []
+  pub works : (state_of (side new role).log.calls).left ≡ None
   pub apart : side new (other role) ≡ side scene (other role)
 
 opened_side : (role : Role) (scene : Scene) (one : Noted) → (step_of one).role ≡ role
@@ -111,6 +115,7 @@ opens_so role chooser header state scene one before after makes fine follows =
       runs = ap (λ (s : Side). s.runs) now ∙ o.runs;
       fed = subst (λ (s : Side). EachFedBy (length s.log.calls) s.log.plan.fed) (sym now) (played_fed log one.part tt);
       taken = ap due now ∙ played_due log one.part ∙ sym (due_by_none (log.calls ++ one.part));
+      works = subst (λ (s : Side). (state_of s.log.calls).left ≡ None) (sym now) (works_played log one.part (left_restarted (side scene role).log) o.fine);
       apart = opened_apart role scene one makes.role;
     }
 

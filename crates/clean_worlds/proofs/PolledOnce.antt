@@ -124,7 +124,7 @@ pub record PollsOnce (role : Role) (chooser : Chooser) (standing : Standing) (by
   pub waits : new.waiting ≡ scene.waiting ++ sent_to (other role) (map spelling frames)
   pub apart : side new (other role) ≡ side scene (other role)
 
-same_roles : (role : Role) → same_role role role ≡ true
+pub same_roles : (role : Role) → same_role role role ≡ true
 same_roles Supplier = refl
 same_roles Receiver = refl
 

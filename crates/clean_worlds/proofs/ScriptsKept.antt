@@ -1,4 +1,4 @@
--- Between the events of a script each running end has taken all that it was fed.
+-- Between the events of a script each running end has taken all that it was fed, and its station works.
 use Rattle.std.proofs.Common.{◌≡◌, ℕ, zero, suc, ◌-◌, Bool, true, false, List, [], ◌∷◌, Option, Some, None, refl, sym, ◌∙◌, ap, subst}
 use Rattle.std.specs.Prelude.{slice_get}
 use Rattle.dsd_values.specs.declared.role.Role.{Role}
@@ -21,12 +21,11 @@ use Rattle.cable_world.specs.Scenes.{Scene, Side, fed, restarted, side, stepped,
 use Rattle.cable_world.specs.Steps.{WorldStep, other, same_role}
 use Rattle.cable_world.specs.declared.event.Event.{Event}
 use Rattle.cable_world.specs.declared.event.Event.TheVariants.{Start, Pass, Lose, Break, Again, Quiet, Unplug, Hear, Stop, Fail, Clean}
-use Rattle.clean_worlds.specs.CleanBeginnings.{HearsIfRunning, RunningHear}
 use Rattle.clean_worlds.specs.WorldHalls.{BothCome}
 use Rattle.clean_worlds.proofs.NotedParts.{split_comes, split_steps}
 use Rattle.clean_worlds.proofs.Opened.{opened_apart}
 use Rattle.clean_worlds.proofs.RoundsClean.{apart_roles, follows_other, hears_apart, waits_not}
-use Rattle.clean_worlds.proofs.RunningKept.{heard_on, polled_beside, receiver_hears, supplier_hears}
+use Rattle.clean_worlds.proofs.RunningKept.{GoesIfRunning, RunningGo, heard_on, polled_beside, receiver_hears, supplier_hears}
 use Rattle.clean_worlds.proofs.SessionPlayed.{no_steps}
 use Rattle.clean_worlds.proofs.Stepped.{fed_other, stepped_other}
 
@@ -38,24 +37,24 @@ each_role P Supplier own others Receiver = others
 each_role P Receiver own others Supplier = others
 each_role P Receiver own others Receiver = own
 
-hears_as : (before after : Option Standing) (old new : Side) → after ≡ before → new ≡ old → HearsIfRunning before old → HearsIfRunning after new
-hears_as before after old new stands same hears = subst (λ (s : Side). HearsIfRunning after s) (sym same) (subst (λ (s : Option Standing). HearsIfRunning s old) (sym stands) hears)
+hears_as : (before after : Option Standing) (old new : Side) → after ≡ before → new ≡ old → GoesIfRunning before old → GoesIfRunning after new
+hears_as before after old new stands same hears = subst (λ (s : Side). GoesIfRunning after s) (sym same) (subst (λ (s : Option Standing). GoesIfRunning s old) (sym stands) hears)
 
-heard_beside : (runs : Bool) (role : Role) (what : Given) (noted : List Noted) (scene next : Scene) → HearsIf runs role what scene (steps_of noted) next → side next (other role) ≡ side scene (other role)
+pub heard_beside : (runs : Bool) (role : Role) (what : Given) (noted : List Noted) (scene next : Scene) → HearsIf runs role what scene (steps_of noted) next → side next (other role) ≡ side scene (other role)
 heard_beside true role what noted scene next out = polled_beside role noted (fed scene role what) next out ∙ fed_other role scene what
 heard_beside false role what noted scene next (none, same) = ap (λ (s : Scene). side s (other role)) same
 
 -- a world begins with no end that runs
-pub hears_first : (supplier receiver : Log) (standing : Role → Option Standing) → RunningHear standing (first_scene supplier receiver)
+pub hears_first : (supplier receiver : Log) (standing : Role → Option Standing) → RunningGo standing (first_scene supplier receiver)
 hears_first supplier receiver standing Supplier on = absurd (cc)
 hears_first supplier receiver standing Receiver on = absurd (cc)
 
 module _ (chooser : Role → Chooser) (header : Role → Header) (is_supplier : (header Supplier).role ≡ Supplier) (is_receiver : (header Receiver).role ≡ Receiver) where
-  -- running ends that can hear before it can hear behind it
+  -- running ends that can go on before it can go on behind it
   abbrev pub Keeps : Course → Type 0
   Keeps course =
       (scene next : Scene) (noted : List Noted) (state : Role → State) (before after : Role → Option Standing) → course scene (steps_of noted) next → BothCome chooser header state before noted after
-      → RunningHear before scene → RunningHear after next
+      → RunningGo before scene → RunningGo after next
 
   keeps_nothing : Keeps Nothing
   keeps_nothing scene next noted state before after (none, same) come hear role =
@@ -75,18 +74,18 @@ module _ (chooser : Role → Chooser) (header : Role → Header) (is_supplier : 
   keeps_times (suc n) one keeps = keeps_then one (Times n one) keeps (keeps_times n one keeps)
 
   -- a change of the scene that leaves both ends as they are
-  keeps_change : (change : Scene → Scene) → ((scene : Scene) (role : Role) (standing : Option Standing) → HearsIfRunning standing (side scene role) → HearsIfRunning standing (side (change scene) role))
+  keeps_change : (change : Scene → Scene) → ((scene : Scene) (role : Role) (standing : Option Standing) → GoesIfRunning standing (side scene role) → GoesIfRunning standing (side (change scene) role))
       → (course : Course) → Keeps course → Keeps (λ (scene : Scene). course (change scene))
   keeps_change change same course keeps scene next noted state before after goes come hear = keeps (change scene) next noted state before after goes come (λ role. same scene role (before role) (hear role))
 
-  waits_same : (waiting : Scene → List (Role × List ℕ)) (scene : Scene) (role : Role) (standing : Option Standing) → HearsIfRunning standing (side scene role) → HearsIfRunning standing (side (with_waiting scene (waiting scene)) role)
-  waits_same waiting scene role standing hears = subst (HearsIfRunning standing) (sym (waits_not role scene (waiting scene))) hears
+  waits_same : (waiting : Scene → List (Role × List ℕ)) (scene : Scene) (role : Role) (standing : Option Standing) → GoesIfRunning standing (side scene role) → GoesIfRunning standing (side (with_waiting scene (waiting scene)) role)
+  waits_same waiting scene role standing hears = subst (GoesIfRunning standing) (sym (waits_not role scene (waiting scene))) hears
 
   -- ---- what an end does
 
   keeps_hears : (role : Role) (what : Given) → Keeps (Hears role what)
   keeps_hears role what scene next noted state before after goes come hear =
-      each_role (λ (r : Role). HearsIfRunning (after r) (side next r)) role
+      each_role (λ (r : Role). GoesIfRunning (after r) (side next r)) role
       (heard_on (side scene role).runs role what (chooser role) (header role) noted (state role) scene next (before role) (after role) (hear role) goes (come role))
       (hears_as (before (other role)) (after (other role)) (side scene (other role)) (side next (other role))
       (hears_apart (side scene role).runs role (other role) (chooser (other role)) (header (other role)) (apart_roles role (other role) refl) what noted (state (other role)) scene next (before (other role)) (after (other role)) goes
@@ -125,12 +124,12 @@ module _ (chooser : Role → Chooser) (header : Role → Header) (is_supplier : 
   keeps_starts_if true role scene next noted state before after goes come hear = keeps_nothing scene next noted state before after goes come hear
   keeps_starts_if false Receiver scene next noted state before after opens come hear =
       let (stays, same) = receiver_beside noted (state Supplier) scene next (before Supplier) (after Supplier) opens (come Supplier) in
-      each_role (λ (r : Role). HearsIfRunning (after r) (side next r)) Receiver
+      each_role (λ (r : Role). GoesIfRunning (after r) (side next r)) Receiver
       (receiver_hears (chooser Receiver) (header Receiver) is_receiver noted (state Receiver) scene next (before Receiver) (after Receiver) opens (come Receiver))
       (hears_as (before Supplier) (after Supplier) (side scene Supplier) (side next Supplier) stays same (hear Supplier))
   keeps_starts_if false Supplier scene next noted state before after opens come hear =
       let (stays, same) = supplier_beside noted (state Receiver) scene next (before Receiver) (after Receiver) opens (come Receiver) in
-      each_role (λ (r : Role). HearsIfRunning (after r) (side next r)) Supplier
+      each_role (λ (r : Role). GoesIfRunning (after r) (side next r)) Supplier
       (supplier_hears (chooser Supplier) (header Supplier) is_supplier noted (state Supplier) scene next (before Supplier) (after Supplier) opens (come Supplier))
       (hears_as (before Receiver) (after Receiver) (side scene Receiver) (side next Receiver) stays same (hear Receiver))
 
@@ -171,17 +170,17 @@ module _ (chooser : Role → Chooser) (header : Role → Header) (is_supplier : 
 
   -- ---- the events
 
-  stop_same : (n : ℕ) (pick : Pick) (role : Role) (scene : Scene) (each : Role) (standing : Option Standing) → HearsIfRunning standing (side scene each) → HearsIfRunning standing (side (with_log scene role (with_stop (side scene role).log n pick)) each)
-  stop_same n pick Supplier scene Supplier standing hears on = let (now, is, can) = hears on in (now, is, record { later = can.later; fed = can.fed; taken = can.taken })
+  stop_same : (n : ℕ) (pick : Pick) (role : Role) (scene : Scene) (each : Role) (standing : Option Standing) → GoesIfRunning standing (side scene each) → GoesIfRunning standing (side (with_log scene role (with_stop (side scene role).log n pick)) each)
+  stop_same n pick Supplier scene Supplier standing hears on = let (now, is, can) = hears on in (now, is, record { can = record { later = can.can.later; fed = can.can.fed; taken = can.can.taken }; works = can.works })
   stop_same n pick Supplier scene Receiver standing hears on = hears on
   stop_same n pick Receiver scene Supplier standing hears on = hears on
-  stop_same n pick Receiver scene Receiver standing hears on = let (now, is, can) = hears on in (now, is, record { later = can.later; fed = can.fed; taken = can.taken })
+  stop_same n pick Receiver scene Receiver standing hears on = let (now, is, can) = hears on in (now, is, record { can = record { later = can.can.later; fed = can.can.fed; taken = can.can.taken }; works = can.works })
 
-  fail_same : (n : ℕ) (role : Role) (scene : Scene) (each : Role) (standing : Option Standing) → HearsIfRunning standing (side scene each) → HearsIfRunning standing (side (with_log scene role (with_failure (side scene role).log n)) each)
-  fail_same n Supplier scene Supplier standing hears on = let (now, is, can) = hears on in (now, is, record { later = can.later; fed = can.fed; taken = can.taken })
+  fail_same : (n : ℕ) (role : Role) (scene : Scene) (each : Role) (standing : Option Standing) → GoesIfRunning standing (side scene each) → GoesIfRunning standing (side (with_log scene role (with_failure (side scene role).log n)) each)
+  fail_same n Supplier scene Supplier standing hears on = let (now, is, can) = hears on in (now, is, record { can = record { later = can.can.later; fed = can.can.fed; taken = can.can.taken }; works = can.works })
   fail_same n Supplier scene Receiver standing hears on = hears on
   fail_same n Receiver scene Supplier standing hears on = hears on
-  fail_same n Receiver scene Receiver standing hears on = let (now, is, can) = hears on in (now, is, record { later = can.later; fed = can.fed; taken = can.taken })
+  fail_same n Receiver scene Receiver standing hears on = let (now, is, can) = hears on in (now, is, record { can = record { later = can.can.later; fed = can.can.fed; taken = can.can.taken }; works = can.works })
 
   keeps_event : (event : Event) → Keeps (Plays event)
   keeps_event (Start role) = keeps_starts role

@@ -1,5 +1,5 @@
 -- What one step makes of a scene, and feeding.
-use Rattle.std.proofs.Common.{◌≡◌, ◌≤◌, ℕ, Bool, true, false, ◌&&◌, List, [], ◌∷◌, ◌++◌, length, map, refl, sym, ◌∙◌, ap, subst, arith, append_assoc, append-nil, length-append}
+use Rattle.std.proofs.Common.{◌≡◌, ◌≤◌, ◌+◌, ℕ, None, if◌then◌else◌, Bool, true, false, ◌&&◌, List, [], ◌∷◌, ◌++◌, length, map, refl, sym, ◌∙◌, ap, subst, arith, append_assoc, append-nil, length-append}
 use Rattle.std.specs.Prelude.{not}
 use Rattle.dsd_values.specs.declared.role.Role.{Role}
 use Rattle.dsd_values.specs.declared.role.Role.TheVariants.{Receiver, Supplier}
@@ -7,13 +7,17 @@ use Rattle.dsd_station.specs.declared.call.Call.{Call}
 use Rattle.dsd_station.specs.declared.feeding.Given.{Given}
 use Rattle.dsd_station.specs.declared.feeding.Given.TheVariants as given
 use Rattle.dsd_station.specs.ByPlan.{due_by}
+use Rattle.dsd_station.specs.Failures.{failed_in, has_failed}
 use Rattle.dsd_station.specs.Logged.{Log, played}
 use Rattle.dsd_station.specs.Placed.{EachFedBy}
 use Rattle.dsd_station.specs.Planned.{Due, DueByte, Plan}
 use Rattle.dsd_station.specs.Plans.{with_fed}
+use Rattle.dsd_station.specs.Replayed.{State, state_of}
 use Rattle.dsd_station.proofs.Planning.{due_by-fed, fed_later, fed_more}
+use Rattle.dsd_station.proofs.Tying.{state_push}
 use Rattle.cable_world.specs.Scenes.{Scene, Side, all_played, due, fed, is_busy, is_nothing, sent_to, side, side_stepped, stepped, with_side, with_waiting}
 use Rattle.cable_world.specs.Steps.{WorldStep, frames_in, other}
+use Rattle.cable_world.proofs.Unarmed.{outcome_left}
 
 -- ---- sides
 
@@ -56,7 +60,7 @@ sent_more role (frame ∷ a) b = ap (λ (l : List (Role × List ℕ)). (role, fr
 
 -- ---- logs
 
-all_played_calls : (log : Log) (part : List Call) → (all_played log part).calls ≡ log.calls ++ part
+pub all_played_calls : (log : Log) (part : List Call) → (all_played log part).calls ≡ log.calls ++ part
 all_played_calls log [] = sym (append-nil log.calls)
 all_played_calls log (call ∷ part) = all_played_calls (played log call) part ∙ append_assoc log.calls (call ∷ []) part
 
@@ -74,6 +78,21 @@ played_fed log part fed =
     let on = fed_later log.plan.fed (length log.calls) (length (log.calls ++ part)) longer fed in
     subst (λ (p : Plan). EachFedBy (length (all_played log part).calls) p.fed) (sym (all_played_plan log part))
     (subst (λ (l : List Call). EachFedBy (length l) log.plan.fed) (sym (all_played_calls log part)) on)
+
+-- a station that works still does behind calls of which none failed
+left_played : (calls part : List Call) → (state_of calls).left ≡ None → failed_in part ≡ 0 → (state_of (calls ++ part)).left ≡ None
+left_played calls [] works none = subst (λ (l : List Call). (state_of l).left ≡ None) (sym (append-nil calls)) works
+left_played calls (call ∷ part) works none =
+    let (fine, rest) = first_fine (has_failed call) (failed_in part) none in
+    subst (λ (l : List Call). (state_of l).left ≡ None) (append_assoc calls (call ∷ []) part)
+    (left_played (calls ++ call ∷ []) part (ap (λ (s : State). s.left) (state_push calls (calls ++ call ∷ []) call refl) ∙ outcome_left (state_of calls) call fine works) rest)
+  where
+    first_fine : (b : Bool) (n : ℕ) → (if b then 1 else 0) + n ≡ 0 → (b ≡ false) × (n ≡ 0)
+    first_fine true n e = absurd (omega (arith, e))
+    first_fine false n e = (refl, omega (arith, e))
+
+pub works_played : (log : Log) (part : List Call) → (state_of log.calls).left ≡ None → failed_in part ≡ 0 → (state_of (all_played log part).calls).left ≡ None
+works_played log part works none = subst (λ (l : List Call). (state_of l).left ≡ None) (sym (all_played_calls log part)) (left_played log.calls part works none)
 
 -- bytes that are fed where nothing is due are what is due
 pub bytes_due : (its : Side) (bytes : List ℕ) → due its ≡ [] → due (record its { log = with_fed its.log (given.Bytes bytes) }) ≡ map DueByte bytes

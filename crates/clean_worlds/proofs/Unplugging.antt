@@ -36,15 +36,15 @@ use Rattle.clean_worlds.proofs.Stepped.{busy_runs, bytes_fed, fed_other, fed_own
 -- ---- a poll that hears that the cable is unplugged
 
 -- it ends, and says nothing
-record CutOff (done : Done) : Type 0 where
-  ended : has_ended done.standing.line ≡ true
-  silent : done.said ≡ []
+pub record CutOff (done : Done) : Type 0 where
+  pub ended : has_ended done.standing.line ≡ true
+  pub silent : done.said ≡ []
 
 cut_off : (ended : Bool) (chooser : Chooser) (standing : Standing) (done : Done) → has_ended standing.line ≡ ended → HearsUnless ended chooser standing Cut done → CutOff done
 cut_off true chooser standing done over e = record { ended = ap (λ (d : Done). has_ended d.standing.line) e ∙ over; silent = ap (λ (d : Done). d.said) e }
 cut_off false chooser standing done over e = record { ended = ap (λ (d : Done). has_ended d.standing.line) e ∙ cut_ends standing.line; silent = ap (λ (d : Done). d.said) e }
 
-cut_polled : (chooser : Chooser) (standing : Standing) (part : List Call) (left : List Due) (done : Done) → standing.first ≡ false → AreHeard (answers_in part) (DueCut ∷ []) left → Steps chooser standing part done → CutOff done
+pub cut_polled : (chooser : Chooser) (standing : Standing) (part : List Call) (left : List Due) (done : Done) → standing.first ≡ false → AreHeard (answers_in part) (DueCut ∷ []) left → Steps chooser standing part done → CutOff done
 cut_polled chooser standing part left done later are steps =
     let (one, heard) = heard_some standing.first chooser standing steps.heard done later steps.next.polls in
     let only : answers_in part ≡ one ∷ [] = steps.listened ∙ ap (λ (h : Option Reception). receptions_of (h ∷ [])) heard in
@@ -62,7 +62,7 @@ pub record IsCut (role : Role) (scene next : Scene) : Type 0 where
   pub apart : side next (other role) ≡ side scene (other role)
 
 -- one poll that is due this alone
-cut_once : (role : Role) (chooser : Chooser) (header : Header) (state : State) (standing : Standing) (scene : Scene) (one : Noted) (after : Option Standing) → standing.first ≡ false
+pub cut_once : (role : Role) (chooser : Chooser) (header : Header) (state : State) (standing : Standing) (scene : Scene) (one : Noted) (after : Option Standing) → standing.first ≡ false
     → EachFedBy (length (side scene role).log.calls) (side scene role).log.plan.fed → due (side scene role) ≡ DueCut ∷ [] → Makes role Poll scene (step_of one)
     → AreCallsOf (kind_of one.answer) one.part → GoesWell one → FollowsIf (same_role role one.role) chooser header state one (Some standing) after → IsCut role scene (stepped scene (step_of one))
 cut_once role chooser header state standing scene one after later fed some makes calls well follows =

@@ -5,15 +5,17 @@ use Rattle.dsd_values.specs.declared.role.Role.{Role}
 use Rattle.dsd_values.specs.declared.role.Role.TheVariants.{Receiver, Supplier}
 use Rattle.dsd_record.specs.Choices.{Chooser}
 use Rattle.dsd_station.specs.Logged.{Log, image_by}
-use Rattle.dsd_station.specs.Replayed.{state_of}
+use Rattle.dsd_station.specs.Planned.{no_plan}
+use Rattle.dsd_station.specs.Replayed.{State, state_of}
 use Rattle.dsd_station.specs.declared.call.Pick.TheVariants.{Keep}
-use Rattle.dsd_journal.specs.Headers.{IsHeader}
+use Rattle.dsd_journal.specs.Headers.{IsHeader, IsId}
 use Rattle.dsd_journal.specs.declared.entry.Entry.{Entry}
 use Rattle.dsd_journal.specs.declared.header.Header.{Header}
 use Rattle.dex_handshake.specs.LineTable.{Line, Ended}
 use Rattle.dex_handshake.specs.declared.session_end.SessionEnd.TheVariants.{Complete}
 use Rattle.dsd_end.specs.Standings.{Standing, has_ended}
 use Rattle.cable_world.specs.Diligence.{ComesBy, refused_in}
+use Rattle.cable_world.specs.Holding.{HoldsLast}
 use Rattle.cable_world.specs.Leaving.{IsBegun}
 use Rattle.cable_world.specs.Living.{CallSo}
 use Rattle.cable_world.specs.Noted.{Noted, steps_of}
@@ -23,14 +25,17 @@ use Rattle.cable_world.specs.Steps.{WorldStep}
 use Rattle.cable_world.specs.Worlds.{HasPlayed, WorldView, chooser_of, header_of, refused_by}
 use Rattle.cable_world.specs.declared.event.Event.{Event}
 use Rattle.cable_world.specs.declared.event.Event.TheVariants.{Clean}
-use Rattle.clean_worlds.specs.CleanBeginnings.{RunningHear}
+use Rattle.clean_worlds.specs.CleanBeginnings.{PlaysClean, RunningHear}
 use Rattle.clean_worlds.specs.CleanPlays.{PlaysSession, choosers, headers}
 use Rattle.clean_worlds.specs.CleanWorlds.{EndsInClean, IdsMatch, IsComplete, come_to, log_for}
-use Rattle.clean_worlds.specs.WholeFrames.{Attends}
+use Rattle.clean_worlds.specs.WholeFrames.{Attends, GoWell}
 use Rattle.clean_worlds.specs.WorldHalls.{BothCome}
 use Rattle.clean_worlds.proofs.CleanPlayed.{plays_clean}
+use Rattle.clean_worlds.proofs.CleanUnhindered.{clean_unhindered}
 use Rattle.clean_worlds.proofs.NotedParts.{split_calls, split_comes, split_steps}
+use Rattle.clean_worlds.proofs.RunningKept.{RunningGo, running_hear, running_work}
 use Rattle.clean_worlds.proofs.ScriptsKept.{each_role, hears_first, keeps_script}
+use Rattle.clean_worlds.proofs.StandingsFine.{both_fine, holds_now}
 
 -- ---- both ends are complete
 
@@ -72,6 +77,12 @@ one_event event scene made next obeys =
 titled : (role : Role) (header : Header) (log : Log) (steps : List WorldStep) → IsBegun role header log steps → IsHeader header
 titled role header log steps begun = (begun.nothing _ (begun.fine.may Keep)).journal.leads.titled
 
+-- the ids of the handheld's journal
+pub ids_of : (world : WorldView) → HasPlayed world → IsId world.script.ends.handheld.own × IsId world.script.ends.handheld.peer
+ids_of world played =
+    let header : IsHeader (header_of world.script Supplier) = titled Supplier (header_of world.script Supplier) played.handheld (steps_of world.noted) played.handheld_told.begun in
+    (header.own, header.peer)
+
 module _ (world : WorldView) (played : HasPlayed world) (match : IdsMatch world.script) where
   abbrev id : List ℕ
   id = world.script.ends.handheld.own
@@ -85,12 +96,12 @@ module _ (world : WorldView) (played : HasPlayed world) (match : IdsMatch world.
   abbrev header : Role → Header
   header = headers id other_id
 
-  receiver_titled : header_of world.script Receiver ≡ header Receiver
+  pub receiver_titled : header_of world.script Receiver ≡ header Receiver
   receiver_titled =
       ap (λ (own : List ℕ). let h : Header = record { role = Receiver; own = own; peer = world.script.ends.receiver.peer } in h) match.0
       ∙ ap (λ (peer : List ℕ). let h : Header = record { role = Receiver; own = other_id; peer = peer } in h) match.1
 
-  is_header : IsHeader (header Supplier)
+  pub is_header : IsHeader (header Supplier)
   is_header = titled Supplier (header Supplier) played.handheld (steps_of world.noted) played.handheld_told.begun
 
   abbrev last_at : Role → Option Standing
@@ -110,6 +121,14 @@ module _ (world : WorldView) (played : HasPlayed world) (match : IdsMatch world.
   refused_at Supplier = played.handheld_told.refused
   refused_at Receiver = played.receiver_told.refused
 
+  holds_at : (role : Role) → HoldsLast (header_of world.script role) (last_at role) (image_by (side world.scene role).log)
+  holds_at Supplier = played.handheld_told.holds
+  holds_at Receiver = played.receiver_told.holds
+
+  unarmed_at : (role : Role) → (log_for played.handheld played.receiver role).plan ≡ no_plan
+  unarmed_at Supplier = played.handheld_is.plan
+  unarmed_at Receiver = played.receiver_is.plan
+
   pub ends_in_clean : (events : List Event) → world.script.events ≡ events ++ Clean ∷ [] → EndsInClean events world
   ends_in_clean events script =
       let both = obeys_parts events (Clean ∷ []) (first_scene played.handheld played.receiver) (steps_of world.noted) played.last
@@ -121,10 +140,16 @@ module _ (world : WorldView) (played : HasPlayed world) (match : IdsMatch world.
       let obeys : Obeys events (first_scene played.handheld played.receiver) (steps_of front) both.between = subst (λ (l : List WorldStep). Obeys events (first_scene played.handheld played.receiver) l both.between) (sym is) both.before in
       let plays : Plays Clean both.between (steps_of back) played.last =
       subst (λ (l : List WorldStep). Plays Clean both.between l played.last) (sym then_is) (one_event Clean both.between both.rest played.last both.behind) in
-      let hear : RunningHear mid both.between =
+      let go : RunningGo mid both.between =
       keeps_script chooser header refl refl events (first_scene played.handheld played.receiver) both.between front (λ (role : Role). state_of (log_for played.handheld played.receiver role).calls) (λ (role : Role). None) mid obeys
       (λ role. (cut role).1) (hears_first played.handheld played.receiver (λ (role : Role). None)) in
+      let hear : RunningHear mid both.between = running_hear mid both.between go in
       let calls : CallSo (steps_of back) = (split_calls front back (subst (λ (l : List Noted). CallSo (steps_of l)) parts played.calls)).1 in
+      let state : Role → State = come_to played.handheld played.receiver front in
+      let behind : BothCome chooser header state mid back last_at = λ role. (cut role).2 in
+      let clean : GoWell back → PlaysClean id other_id (chooser_of world.script Supplier) (chooser_of world.script Receiver) state (steps_of back) played.last last_at =
+      λ well. plays_clean id other_id is_header.own is_header.peer (chooser_of world.script Supplier) (chooser_of world.script Receiver) state both.between played.last mid last_at (steps_of back) hear
+      (record { noted = back; is = refl; come = behind; calls = calls; well = well }) plays in
       record {
         handheld = played.handheld;
         receiver = played.receiver;
@@ -135,9 +160,19 @@ module _ (world : WorldView) (played : HasPlayed world) (match : IdsMatch world.
         last = played.last;
         obeys = obeys;
         plays = plays;
+        unarmed = unarmed_at;
         image = image_at;
         standing = last_at;
         refused = refused_at;
-        clean = λ well. plays_clean id other_id is_header.own is_header.peer (chooser_of world.script Supplier) (chooser_of world.script Receiver) (come_to played.handheld played.receiver front) both.between played.last mid last_at
-            (steps_of back) hear (record { noted = back; is = refl; come = λ role. (cut role).2; calls = calls; well = well }) plays;
+        well = λ free. clean_unhindered id other_id is_header.own is_header.peer (chooser_of world.script Supplier) (chooser_of world.script Receiver) state both.between played.last mid last_at
+            back hear (running_work mid both.between go) behind calls plays free;
+        clean = clean;
+        holds = λ well role now is.
+            holds_now (header_of world.script role) (last_at role) (image_by (side world.scene role).log) (holds_at role)
+            (both_fine id other_id (chooser_of world.script Supplier) (chooser_of world.script Receiver) state back played.last mid last_at behind well (clean well) role) now is;
       }
+
+  -- its records begin as those of the world
+  pub ends_so : (events : List Event) (script : world.script.events ≡ events ++ Clean ∷ []) → ((ends_in_clean events script).handheld ≡ played.handheld) × ((ends_in_clean events script).receiver ≡ played.receiver)
+  unfolding ends_in_clean
+  ends_so events script = (refl, refl)

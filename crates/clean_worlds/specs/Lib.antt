@@ -1,5 +1,10 @@
+pub mod Histories
+pub mod Healing
 pub mod WholeFrames
 pub mod WorldHalls
 pub mod CleanPlays
 pub mod CleanBeginnings
+pub mod Faultless
 pub mod CleanWorlds
+pub mod LeftLists
+pub mod CleanEndings
