@@ -1,7 +1,10 @@
 //! `replay`: from the source to a world that plays its script.
 
 ghost use Rattle.std.specs.Prelude.{◌≡◌, ◌+◌, ◌≤◌, IfOk, OnErr};
+ghost use Rattle.dsd_values.specs.Answers.{UnlessMemory};
 ghost use Rattle.dsd_station.specs.Causes.{TakesUpTo};
+ghost use Rattle.cable_world.specs.Reading.{script_of};
+ghost use Rattle.cable_world.specs.ScriptTexts.{Says};
 ghost use Rattle.cable_world.specs.declared.stage.Stage.TheVariants.{New, Played};
 ghost use Rattle.dex_cli.specs.Replaying.{HasReplayed, IsReplayed, worlds_of};
 ghost use Rattle.dex_cli.specs.Verdicts.{Replays, ReplaysInput, read_of};
@@ -11,6 +14,7 @@ use crate::refusal::{Reason, Refusal};
 use crate::serving::refused;
 use crate::verdict::Verdict;
 use cable_world::{Script, World, WorldReport, open_world};
+use clean_worlds::clean_endings_settle;
 use dsd_record::DraftFault;
 use dsd_station::{ReadFault, Source, read_up_to};
 use segments::SetReason;
@@ -29,19 +33,19 @@ pub fn replay<S: Source>(
     ensures later { S.faults source.old ≤ S.faults source.new }
 {
     match read_up_to(alloc, source, INPUT_BYTES + 1) {
-        Ok(input) => replay_input(alloc, &input, world),
+        Ok(input) => replay_input(alloc, input, world),
         Err(ReadFault::Failed) => Ok(Verdict::SourceFault),
         Err(ReadFault::Memory) => Err(AllocError),
     }
 }
 
-/// Plays the script that an input says, which is refused where it is longer than any may be.
+/// Plays the script that an input says, which is refused where it is longer than any may be. The input is let go before anything is played.
 fn replay_input(
     alloc: Global,
-    input: &[u8],
+    input: Vec<u8>,
     world: &mut Option<World>,
 ) -> Result<Verdict, AllocError>
-    ensures told { IfOk result (ReplaysInput input.now (worlds_of world.old world.new)) }
+    ensures told { IfOk result (ReplaysInput input.items (worlds_of world.old world.new)) }
     ensures kept { OnErr result (world.new ≡ world.old) }
 {
     if input.len() > INPUT_BYTES {
@@ -50,7 +54,7 @@ fn replay_input(
             reason: Reason::Set(SetReason::Limit),
         }));
     }
-    match Script::read(alloc, input) {
+    match read_script(alloc, input) {
         Ok(script) => match play_script(alloc, script, world) {
             Ok(report) => Ok(Verdict::Replayed(report)),
             Err(fault) => Err(fault),
@@ -58,6 +62,14 @@ fn replay_input(
         Err(DraftFault::Refused { place, reason }) => Ok(refused(place, reason)),
         Err(DraftFault::Memory) => Err(AllocError),
     }
+}
+
+/// The script that an input says. It keeps nothing of the input, which is let go.
+fn read_script(alloc: Global, input: Vec<u8>) -> Result<Script, DraftFault>
+    ensures found { IfOk result (λ script. Says script input.items) }
+    ensures exact { UnlessMemory DraftFault.Memory result (script_of input.items) }
+{
+    Script::read(alloc, &input)
 }
 
 /// Plays a script, and leaves the world that played it; where memory is wanting, the caller keeps what it had.
@@ -111,6 +123,8 @@ fn finish(world: &mut World) -> Result<WorldReport, AllocError>
     requires { world.old.stage ≡ Played }
     ensures { IfOk result (HasReplayed world.old.script world.new) }
 {
+    // What a clean event at the script's end leaves is known of each world that has played.
+    clean_endings_settle();
     match world.finish() {
         Ok(report) => Ok(report),
         Err(_) => Err(AllocError),

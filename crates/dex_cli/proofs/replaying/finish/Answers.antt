@@ -6,4 +6,6 @@ returns-in-Ok c = record {
   finished = c.in-Ok.ensures.stage;
   played = c.in-Ok.ensures.played;
   reported = c.in-Ok.ensures.report;
+  settles = λ events. c.clean_endings_settle.ensures.lists c.finish.new.self events c.in-Ok.ensures.played;
+  completes = c.clean_endings_settle.ensures.empty c.finish.new.self c.in-Ok.ensures.played;
 }
