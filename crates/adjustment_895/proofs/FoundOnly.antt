@@ -5,38 +5,39 @@ use Rattle.block_check.specs.Crc16.{crc_from}
 use Rattle.std.proofs.lemmas.List.Elements.{All-nil}
 use Rattle.dsd_values.specs.declared.extra.Extra.{Extra}
 use Rattle.dsd_values.specs.declared.line.Line.{Line}
-use Rattle.segments.specs.Extras.{HasExtras, extra_in, kept_text}
+use Rattle.transaction_set.specs.Extras.{HasExtras, extra_in}
+use Rattle.segments.specs.Elements.{kept_text}
 use Rattle.dsd_values.specs.declared.limits.TheConstants.{MOST_LINES, SET_BYTES}
 use Rattle.std.specs.Option.{is_some}
 use Rattle.dsd_values.specs.SignatureRecord.{SignatureRecord}
 use Rattle.segments.specs.Views.{Seg}
-use Rattle.segments.specs.Kinds.{kind_of, next_phase, is_done}
-use Rattle.segments.specs.SoFar.{SoFar, extras_after, in_line, kept, phase_in}
+use Rattle.transaction_set.specs.Kinds.{kind_of, next_phase, is_done}
+use Rattle.transaction_set.specs.SoFar.{SoFar, extras_after, in_line, kept, phase_in}
 use Rattle.segments.specs.Elements.{◌or_else◌}
-use Rattle.segments.specs.Reasons.{admission}
-use Rattle.segments.specs.Grammar.{IsSound}
+use Rattle.transaction_set.specs.Reasons.{admission}
+use Rattle.transaction_set.specs.Grammar.{IsSound}
 use Rattle.segments.specs.SegmentSpelling.{SpellsSegments}
 use Rattle.segments.specs.SegmentCut.{Cut, cut_of}
 use Rattle.segments.specs.declared.segment_fault.SegmentFault.{SegmentFault}
-use Rattle.segments.specs.declared.seal.Seal.{Seal}
-use Rattle.segments.specs.declared.kind.Kind.{Kind}
-use Rattle.segments.specs.declared.kind.Kind.TheVariants as kinds
-use Rattle.segments.specs.declared.kind.Form.TheVariants as forms
-use Rattle.segments.specs.declared.phase.Phase.{Phase}
-use Rattle.segments.specs.declared.phase.Phase.TheVariants as phases
+use Rattle.transaction_set.specs.declared.seal.Seal.{Seal}
+use Rattle.transaction_set.specs.declared.kind.Kind.{Kind}
+use Rattle.transaction_set.specs.declared.kind.Kind.TheVariants as kinds
+use Rattle.transaction_set.specs.declared.kind.Form.TheVariants as forms
+use Rattle.transaction_set.specs.declared.phase.Phase.{Phase}
+use Rattle.transaction_set.specs.declared.phase.Phase.TheVariants as phases
 use Rattle.segments.proofs.Cutting.{spelled_of-cut, cut_of-spelled}
-use Rattle.segments.proofs.Small.{both_none, none_then, not_when}
-use Rattle.segments.proofs.Rest.{IsAt, Read}
-use Rattle.segments.proofs.Whole.{AreShort, and_both, are_short, both_and, end_at, end_of, no_fault}
-use Rattle.segments.proofs.Back.{moves}
-use Rattle.segments.proofs.Behind.{no_extras}
-use Rattle.segments.proofs.Keeps.{Sound, is_sound, keeps, at_next, refused_none, none_refused, ended_none, none_ended, done_is, MayStand, may_stand, admitted}
+use Rattle.transaction_set.proofs.Small.{both_none, none_then, not_when}
+use Rattle.transaction_set.proofs.Rest.{IsAt, Read}
+use Rattle.transaction_set.proofs.Whole.{AreShort, and_both, are_short, both_and, end_at, end_of, no_fault}
+use Rattle.transaction_set.proofs.Back.{moves}
+use Rattle.transaction_set.proofs.Behind.{no_extras}
+use Rattle.transaction_set.proofs.Keeps.{Sound, is_sound, keeps, at_next, refused_none, none_refused, ended_none, none_ended, done_is, MayStand, may_stand, admitted}
 use Rattle.adjustment_895.specs.AnswerRecord.{AnswerRecord}
 use Rattle.adjustment_895.specs.Grammar.{IsLevelled, shared_of, notes, AreSegments, FromStart}
 use Rattle.adjustment_895.specs.AnswerText.{Is895}
 use Rattle.adjustment_895.specs.Said.{Said, nothing, level_in, level_reason, own_reason, reason_of, kept_by, after, has_head}
 use Rattle.adjustment_895.specs.FirstRefusal.{judged}
-use Rattle.segments.specs.Refusal.{refusal_from, said_by}
+use Rattle.transaction_set.specs.Refusal.{refusal_from, said_by}
 use Rattle.adjustment_895.specs.ReadParts.{IsReadFrom, answer_of, first_note, seal_of}
 use Rattle.adjustment_895.specs.declared.head.AnswerHead.{AnswerHead}
 use Rattle.adjustment_895.specs.declared.parts.Parts.{Parts}

@@ -9,15 +9,15 @@ use Rattle.dsd_values.specs.declared.limits.TheConstants.{MOST_LINES}
 use Rattle.dsd_values.specs.declared.line.Line.{Line}
 use Rattle.dsd_values.specs.declared.quantity.TheConstants.{MOST_TOTAL_QUANTITY}
 use Rattle.dsd_values.proofs.Again.{check_again, flag_again}
-use Rattle.segments.specs.Extras.{HasExtras}
-use Rattle.segments.specs.Grammar.{Shared}
-use Rattle.segments.specs.SetWriting.{control_text}
-use Rattle.segments.specs.SoundLines.{AreSoundLines, IsSoundLine}
-use Rattle.segments.specs.declared.kind.Form.TheVariants as forms
-use Rattle.segments.specs.declared.seal.Seal.{Seal}
-use Rattle.segments.proofs.Making.{made, set_lines}
-use Rattle.segments.proofs.Plain.{delivery_number_plain, signature_plain, totals_plain}
-use Rattle.segments.proofs.Sounding.{HasFew, line_behind, no_extras, number_plain, said_all, word_plain}
+use Rattle.transaction_set.specs.Extras.{HasExtras}
+use Rattle.transaction_set.specs.Grammar.{Shared}
+use Rattle.transaction_set.specs.SetWriting.{control_text}
+use Rattle.transaction_set.specs.SoundLines.{AreSoundLines, IsSoundLine}
+use Rattle.transaction_set.specs.declared.kind.Form.TheVariants as forms
+use Rattle.transaction_set.specs.declared.seal.Seal.{Seal}
+use Rattle.transaction_set.proofs.Making.{made, set_lines}
+use Rattle.transaction_set.proofs.Plain.{delivery_number_plain, signature_plain, totals_plain}
+use Rattle.transaction_set.proofs.Sounding.{HasFew, line_behind, no_extras, number_plain, said_all, word_plain}
 use Rattle.adjustment_895.specs.AnswerRecord.{AnswerRecord}
 use Rattle.adjustment_895.specs.AnswerText.{IsAnswer}
 use Rattle.adjustment_895.specs.Grammar.{IsHead, IsLevelled, notes, shared_of}

@@ -2,17 +2,17 @@
 use Rattle.std.proofs.Common.{◌≡◌, ℕ, List, [], Result, Err, Some, None, Option, refl, sym, ap, ◌∙◌, subst}
 use Rattle.dsd_values.specs.declared.line.Line.{Line}
 use Rattle.dsd_values.specs.SignatureRecord.{SignatureRecord}
-use Rattle.segments.specs.declared.kind.Form.TheVariants as forms
-use Rattle.segments.proofs.Making.{set_few}
-use Rattle.segments.proofs.Whole.{long_ones}
-use Rattle.segments.proofs.Small.{same_some}
+use Rattle.transaction_set.specs.declared.kind.Form.TheVariants as forms
+use Rattle.transaction_set.proofs.Making.{set_few}
+use Rattle.transaction_set.proofs.Whole.{long_ones}
+use Rattle.transaction_set.proofs.Small.{same_some}
 use Rattle.segments.specs.SegmentCut.{cut_of}
-use Rattle.segments.specs.Refusal.{Answers, Refusal, refusal_from, said_by}
+use Rattle.transaction_set.specs.Refusal.{Answers, Refusal, refusal_from, said_by}
 use Rattle.segments.specs.declared.segment_fault.SegmentFault.{SegmentFault}
-use Rattle.segments.specs.declared.set_fault.SetFault.{SetFault}
-use Rattle.segments.specs.declared.set_fault.SetFault.TheVariants as errors
-use Rattle.segments.specs.declared.seal.Seal.{Seal}
-use Rattle.segments.specs.declared.stated.StatedTotals.{StatedTotals}
+use Rattle.transaction_set.specs.declared.set_fault.SetFault.{SetFault}
+use Rattle.transaction_set.specs.declared.set_fault.SetFault.TheVariants as errors
+use Rattle.transaction_set.specs.declared.seal.Seal.{Seal}
+use Rattle.transaction_set.specs.declared.stated.StatedTotals.{StatedTotals}
 use Rattle.adjustment_895.specs.AnswerRecord.{AnswerRecord}
 use Rattle.adjustment_895.specs.Grammar.{IsHead, notes, shared_of}
 use Rattle.adjustment_895.specs.AnswerText.{Is895, IsAnswer}

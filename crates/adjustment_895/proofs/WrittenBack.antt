@@ -18,18 +18,18 @@ use Rattle.dsd_values.specs.declared.role.Role.TheVariants.{Receiver, Supplier}
 use Rattle.dsd_values.proofs.Again.{IsReadAs, check_again, delivery_number_again, flag_again, number_again, word_again}
 use Rattle.dsd_values.proofs.Laws.{check_of_spelled}
 use Rattle.segments.specs.Views.{Seg, element_of}
-use Rattle.segments.specs.RowsWritten.{first_long}
+use Rattle.transaction_set.specs.RowsWritten.{first_long}
 use Rattle.segments.specs.SegmentSpelling.{IsSegment}
 use Rattle.segments.specs.SegmentWriting.{segments_of, text_of}
-use Rattle.segments.specs.SetWriting.{control_text, start_row}
-use Rattle.segments.specs.declared.kind.Form.TheVariants as forms
-use Rattle.segments.specs.declared.texts.TheConstants.{MOST_CONTROL_NUMBER}
-use Rattle.segments.proofs.PartedTexts.{no_tail}
-use Rattle.segments.proofs.RowsSay.{SaysAgain, no_longer, reads_at, row_segment}
-use Rattle.segments.proofs.RowsShape.{IsSealable}
-use Rattle.segments.proofs.SetRows.{AreAsked, are_asked, are_long, are_sealed, set_reshaped}
-use Rattle.segments.proofs.Tells.{IsLong}
-use Rattle.segments.proofs.WrittenSets.{written_set}
+use Rattle.transaction_set.specs.SetWriting.{control_text, start_row}
+use Rattle.transaction_set.specs.declared.kind.Form.TheVariants as forms
+use Rattle.segments.specs.declared.segment_writer.TheConstants.{MOST_CONTROL_NUMBER}
+use Rattle.transaction_set.proofs.PartedTexts.{no_tail}
+use Rattle.transaction_set.proofs.RowsSay.{SaysAgain, no_longer, reads_at, row_segment}
+use Rattle.transaction_set.proofs.RowsShape.{IsSealable}
+use Rattle.transaction_set.proofs.SetRows.{AreAsked, are_asked, are_long, are_sealed, set_reshaped}
+use Rattle.transaction_set.proofs.Tells.{IsLong}
+use Rattle.transaction_set.proofs.WrittenSets.{written_set}
 use Rattle.segments.specs.SetUnits.{IsSetText}
 use Rattle.adjustment_895.specs.AnswerRecord.{AnswerRecord}
 use Rattle.adjustment_895.specs.AnswerText.{Is895, IsAnswer}

@@ -3,9 +3,9 @@ use Rattle.std.specs.Prelude.{◌≤◌, ℕ, List, [], length, All}
 use Rattle.dsd_values.specs.declared.limits.TheConstants.{SET_BYTES}
 use Rattle.segments.specs.Views.{Seg}
 use Rattle.segments.specs.SegmentSpelling.{IsLongSegment, SpellsSegments}
-use Rattle.segments.specs.Grammar.{IsSound}
-use Rattle.segments.specs.SoundLines.{HaveFew}
-use Rattle.segments.specs.declared.seal.Seal.{Seal}
+use Rattle.transaction_set.specs.Grammar.{IsSound}
+use Rattle.transaction_set.specs.SoundLines.{HaveFew}
+use Rattle.transaction_set.specs.declared.seal.Seal.{Seal}
 use Rattle.adjustment_895.specs.AnswerRecord.{AnswerRecord}
 use Rattle.adjustment_895.specs.Grammar.{AreSegments, IsLevelled}
 

@@ -5,10 +5,10 @@ use Rattle.dsd_values.specs.Reading.{role_of, flag_of, delivery_number_of, check
 use Rattle.dsd_values.specs.declared.extra.Extra.{Extra}
 use Rattle.dsd_values.specs.declared.line.Line.{Line}
 use Rattle.segments.specs.Views.{Seg, element_of}
-use Rattle.segments.specs.Grammar.{Shape, Shared, One, IsStart, IsNoLonger, BehindHead}
-use Rattle.segments.specs.declared.kind.Form.TheVariants as forms
-use Rattle.segments.specs.declared.kind.Kind.TheVariants as kinds
-use Rattle.segments.specs.declared.seal.Seal.{Seal}
+use Rattle.transaction_set.specs.Grammar.{Shape, Shared, One, IsStart, IsNoLonger, BehindHead}
+use Rattle.transaction_set.specs.declared.kind.Form.TheVariants as forms
+use Rattle.transaction_set.specs.declared.kind.Kind.TheVariants as kinds
+use Rattle.transaction_set.specs.declared.seal.Seal.{Seal}
 use Rattle.adjustment_895.specs.AnswerRecord.{AnswerRecord}
 
 -- G87: each element is a spelling of the field that stands beside it

@@ -4,7 +4,7 @@ use Rattle.dsd_pricing.specs.declared.amounts.Totals.{Totals}
 use Rattle.dsd_values.specs.SignatureRecord.{SignatureRecord}
 use Rattle.dsd_values.specs.declared.level.TheConstants.Level.{MAX as HIGHEST}
 use Rattle.dsd_values.specs.declared.line.Line.{Line}
-use Rattle.segments.specs.SoundLines.{IsPlainNumber, IsPlainWord}
+use Rattle.transaction_set.specs.SoundLines.{IsPlainNumber, IsPlainWord}
 use Rattle.adjustment_895.specs.AnswerRecord.{AnswerRecord}
 use Rattle.adjustment_895.specs.declared.head.AnswerHead.{AnswerHead}
 

@@ -1,7 +1,7 @@
 -- What the reader of an answer hands on: from the segments one by one to the parts of the answer.
 use Rattle.std.specs.Prelude.{◌≡◌, ℕ, List, [], ◌∷◌, Option, Some, None}
-use Rattle.segments.specs.Closing.{IsClosed}
-use Rattle.segments.specs.declared.seal.Seal.{Seal}
+use Rattle.transaction_set.specs.Closing.{IsClosed}
+use Rattle.transaction_set.specs.declared.seal.Seal.{Seal}
 use Rattle.adjustment_895.specs.AnswerRecord.{AnswerRecord}
 use Rattle.adjustment_895.specs.Said.{Said}
 use Rattle.adjustment_895.specs.declared.parts.Parts.{Parts}

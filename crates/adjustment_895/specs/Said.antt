@@ -3,17 +3,17 @@ use Rattle.std.specs.Prelude.{ℕ, ◌+◌, Bool, true, false, ◌&&◌, ◌==�
 use Rattle.block_check.specs.Crc16.{crc_from}
 use Rattle.segments.specs.Views.{Seg, element_of}
 use Rattle.segments.specs.Elements.{◌or_else◌}
-use Rattle.segments.specs.Closing.{is_closed}
-use Rattle.segments.specs.Kinds.{kind_of, next_phase}
-use Rattle.segments.specs.SoFar.{SoFar, kept, phase_in}
-use Rattle.segments.specs.SoFar as course
-use Rattle.segments.specs.Reasons.{when, as_value, admission, course_reason}
-use Rattle.segments.specs.declared.kind.Form.TheVariants as forms
-use Rattle.segments.specs.declared.kind.Kind.{Kind}
-use Rattle.segments.specs.declared.kind.Kind.TheVariants as kinds
-use Rattle.segments.specs.declared.phase.Phase.{Phase}
-use Rattle.segments.specs.declared.set_fault.SetReason.{SetReason}
-use Rattle.segments.specs.declared.set_fault.SetReason.TheVariants as reasons
+use Rattle.transaction_set.specs.Closing.{is_closed}
+use Rattle.transaction_set.specs.Kinds.{kind_of, next_phase}
+use Rattle.transaction_set.specs.SoFar.{SoFar, kept, phase_in}
+use Rattle.transaction_set.specs.SoFar as course
+use Rattle.transaction_set.specs.Reasons.{when, as_value, admission, course_reason}
+use Rattle.transaction_set.specs.declared.kind.Form.TheVariants as forms
+use Rattle.transaction_set.specs.declared.kind.Kind.{Kind}
+use Rattle.transaction_set.specs.declared.kind.Kind.TheVariants as kinds
+use Rattle.transaction_set.specs.declared.phase.Phase.{Phase}
+use Rattle.transaction_set.specs.declared.set_fault.SetReason.{SetReason}
+use Rattle.transaction_set.specs.declared.set_fault.SetReason.TheVariants as reasons
 use Rattle.adjustment_895.specs.HeadTable.{head_fault, head_in, is_past_levels}
 use Rattle.adjustment_895.specs.declared.head.AnswerHead.{AnswerHead}
 

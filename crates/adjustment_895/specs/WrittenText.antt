@@ -5,12 +5,12 @@ use Rattle.dsd_values.specs.Spelling.{flag_text, role_text}
 use Rattle.dsd_values.specs.Writing.{check_text, number_text}
 use Rattle.dsd_pricing.specs.WholeText.{unless_too_long, whole}
 use Rattle.dsd_pricing.specs.declared.fault.WriteFault.{WriteFault}
-use Rattle.segments.specs.RowsWritten.{first_long}
+use Rattle.transaction_set.specs.RowsWritten.{first_long}
 use Rattle.segments.specs.SegmentWriting.{text_of}
-use Rattle.segments.specs.SetWriting.{Row, body_rows, control_text, kept_row, row_of, sealed, start_row}
-use Rattle.segments.specs.declared.kind.Form.TheVariants as forms
-use Rattle.segments.specs.declared.seal.Seal.{Seal}
-use Rattle.segments.specs.declared.stated.StatedTotals.{StatedTotals}
+use Rattle.transaction_set.specs.SetWriting.{Row, body_rows, control_text, kept_row, row_of, sealed, start_row}
+use Rattle.transaction_set.specs.declared.kind.Form.TheVariants as forms
+use Rattle.transaction_set.specs.declared.seal.Seal.{Seal}
+use Rattle.transaction_set.specs.declared.stated.StatedTotals.{StatedTotals}
 use Rattle.adjustment_895.specs.AnswerRecord.{AnswerRecord}
 use Rattle.adjustment_895.specs.Grammar.{notes}
 

@@ -3,7 +3,7 @@
 ghost use Rattle.std.specs.Prelude.{◌≡◌, ◌≤◌, IfOk, None, Some, MatchOption, length};
 ghost use Rattle.dsd_values.specs.declared.limits.TheConstants.{MOST_LINES};
 ghost use Rattle.dsd_values.specs.declared.quantity.TheConstants.{MOST_TOTAL_QUANTITY};
-ghost use Rattle.segments.specs.SoundLines.{AreSoundLines};
+ghost use Rattle.transaction_set.specs.SoundLines.{AreSoundLines};
 ghost use Rattle.adjustment_895.specs.Grammar.{IsLevelled, has_none, notes as texts_of};
 ghost use Rattle.adjustment_895.specs.Making.{answer_made};
 ghost use Rattle.adjustment_895.specs.ReadParts.{answer_of, first_note as first_of, seal_of};
@@ -16,7 +16,7 @@ use dsd_pricing::Totals;
 use dsd_values::{
     Cents, Check, DeliveryNumber, Flag, Kept, Level, Lines, Memory, Role, Signature, Word,
 };
-use segments::{Closed, Seal, StatedTotals};
+use transaction_set::{Closed, Seal, StatedTotals};
 use std::alloc::Global;
 use std::marker::Model;
 

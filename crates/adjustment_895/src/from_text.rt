@@ -1,9 +1,9 @@
 //! Reading an answer from its text.
 
 ghost use Rattle.std.specs.Prelude.{◌≡◌, length, IfOk, None};
-ghost use Rattle.segments.specs.Refusal.{Answers, IsWithin, said_by};
+ghost use Rattle.transaction_set.specs.Refusal.{Answers, IsWithin, said_by};
 ghost use Rattle.segments.specs.SegmentCut.{cut_of};
-ghost use Rattle.segments.specs.declared.seal.Seal.{Seal as SealValue};
+ghost use Rattle.transaction_set.specs.declared.seal.Seal.{Seal as SealValue};
 ghost use Rattle.adjustment_895.specs.AnswerRecord.{AnswerRecord};
 ghost use Rattle.adjustment_895.specs.AnswerText.{Is895};
 ghost use Rattle.adjustment_895.specs.Said.{nothing};
@@ -13,7 +13,8 @@ ghost use Rattle.adjustment_895.specs.ReadParts.{IsReadFrom};
 use crate::answer::{Answer895, seal_up};
 use crate::parts::Parts;
 use crate::reader::Reader;
-use segments::{Seal, SegmentReader, SetFault, unreadable};
+use segments::SegmentReader;
+use transaction_set::{Seal, SetFault, unreadable};
 use std::alloc::Global;
 
 /// Reads an answer: its value and its seal.

@@ -7,9 +7,9 @@ ghost use Rattle.dsd_values.specs.declared.cents.TheConstants.Cents.{MAX as MOST
 ghost use Rattle.dsd_values.specs.declared.limits.TheConstants.{MOST_LINES};
 ghost use Rattle.dsd_values.specs.declared.line.Line.{Line};
 ghost use Rattle.dsd_values.specs.declared.quantity.TheConstants.{MOST_TOTAL_QUANTITY};
-ghost use Rattle.segments.specs.SoundLines.{AreSoundLines};
-ghost use Rattle.segments.specs.Refusal.{Refusal};
-ghost use Rattle.segments.specs.declared.seal.Seal.{Seal};
+ghost use Rattle.transaction_set.specs.SoundLines.{AreSoundLines};
+ghost use Rattle.transaction_set.specs.Refusal.{Refusal};
+ghost use Rattle.transaction_set.specs.declared.seal.Seal.{Seal};
 ghost use Rattle.adjustment_895.specs.AnswerRecord.{AnswerRecord};
 ghost use Rattle.adjustment_895.specs.AnswerText.{Is895, IsAnswer};
 ghost use Rattle.adjustment_895.specs.FirstRefusal.{refusal_of};

@@ -1,7 +1,7 @@
 //! What was read of an answer.
 
 use crate::head::AnswerHead;
-use segments::Closed;
+use transaction_set::Closed;
 
 /// The head, and what both sets have.
 #[derive(Drop)]

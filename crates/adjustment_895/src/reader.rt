@@ -2,19 +2,20 @@
 
 ghost use Rattle.std.specs.Prelude.{◌≡◌, ◌+◌, ◌≤◌, length, IfOk, OnOk, None, Some};
 ghost use Rattle.segments.specs.Elements.{◌or_else◌};
-ghost use Rattle.segments.specs.Kinds.{next_phase};
-ghost use Rattle.segments.specs.Reasons.{Says, admission};
-ghost use Rattle.segments.specs.Refusal.{Answers, ended_at};
+ghost use Rattle.transaction_set.specs.Kinds.{next_phase};
+ghost use Rattle.transaction_set.specs.Reasons.{Says, admission};
+ghost use Rattle.transaction_set.specs.Refusal.{Answers, ended_at};
 ghost use Rattle.adjustment_895.specs.HeadTable.{head_in};
 ghost use Rattle.adjustment_895.specs.Said.{nothing, head_reason, level_in, level_reason, own_reason, reason_of, kept_by, after, is_whole};
 ghost use Rattle.adjustment_895.specs.ReadParts.{IsReadFrom};
-ghost use Rattle.segments.specs.declared.kind.Form.TheVariants as forms;
-ghost use Rattle.segments.specs.declared.kind.Kind.TheVariants as kinds;
+ghost use Rattle.transaction_set.specs.declared.kind.Form.TheVariants as forms;
+ghost use Rattle.transaction_set.specs.declared.kind.Kind.TheVariants as kinds;
 
 use crate::head::{AnswerHead, is_past_levels, read_head};
 use crate::parts::Parts;
 use dsd_values::{Memory, SET_BYTES};
-use segments::{Course, Form, Kind, Phase, Segment, SetFault, SetReason, at, refuse};
+use segments::Segment;
+use transaction_set::{Course, Form, Kind, Phase, SetFault, SetReason, at, refuse};
 use std::alloc::Global;
 use std::marker::Model;
 
@@ -45,7 +46,7 @@ impl Reader {
     }
 
     /// Takes one more segment.
-    #[tactic(auto, unfolding(crate::specs::Said::kept_by, crate::specs::Said::reason_of, segments::specs::SoFar::kept, segments::specs::SoFar::moved))]
+    #[tactic(auto, unfolding(crate::specs::Said::kept_by, crate::specs::Said::reason_of, transaction_set::specs::SoFar::kept, transaction_set::specs::SoFar::moved))]
     pub fn step(&mut self, segment: &Segment<'_>) -> Result<(), SetFault>
         requires { self.old.course.count ≤ SET_BYTES }
         ensures exact { Says result segment.now.start (reason_of self.old segment.now) (λ _. self.new ≡ after self.old segment.now) }
@@ -63,7 +64,7 @@ impl Reader {
     }
 
     /// Whether such a segment may stand here, and what may come behind it: in an answer of level 0 no loop may.
-    #[tactic(auto, unfolding(segments::specs::Reasons::admission))]
+    #[tactic(auto, unfolding(transaction_set::specs::Reasons::admission))]
     fn admit(&self, kind: Kind, segment: &Segment<'_>) -> Result<Phase, SetFault>
         ensures exact { Says result segment.now.start (level_reason kind self.now.head or_else admission forms.Answer self.now.course.phase kind segment.now)
             (λ phase. next_phase self.now.course.phase kind forms.Answer ≡ Some phase) }
@@ -86,7 +87,7 @@ impl Reader {
     }
 
     /// Keeps what a segment of this kind says.
-    #[tactic(auto, unfolding(crate::specs::Said::kept_by, segments::specs::SoFar::kept))]
+    #[tactic(auto, unfolding(crate::specs::Said::kept_by, transaction_set::specs::SoFar::kept))]
     fn keep(&mut self, kind: Kind, segment: &Segment<'_>) -> Result<(), SetFault>
         requires { self.old.course.count ≤ SET_BYTES }
         ensures { Says result segment.now.start (own_reason self.old segment.now kind)
@@ -101,7 +102,7 @@ impl Reader {
     /// Keeps the head.
     // Not inlined, as it makes more room ready than all other kinds together.
     #[inline(never)]
-    #[tactic(auto, unfolding(crate::specs::Said::kept_by, segments::specs::SoFar::kept))]
+    #[tactic(auto, unfolding(crate::specs::Said::kept_by, transaction_set::specs::SoFar::kept))]
     fn keep_head(&mut self, segment: &Segment<'_>) -> Result<(), SetFault>
         ensures { Says result segment.now.start (own_reason self.old segment.now kinds.Head)
             (λ _. self.new ≡ kept_by self.old segment.now kinds.Head self.old.course.phase self.old.course.count self.old.course.check) }

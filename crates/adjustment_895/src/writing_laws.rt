@@ -2,7 +2,7 @@
 
 ghost use Rattle.std.specs.Prelude.{◌≡◌, ◌≤◌, ℕ, List, Ok};
 ghost use Rattle.segments.specs.SetUnits.{IsSetText};
-ghost use Rattle.segments.specs.declared.texts.TheConstants.{MOST_CONTROL_NUMBER};
+ghost use Rattle.segments.specs.declared.segment_writer.TheConstants.{MOST_CONTROL_NUMBER};
 ghost use Rattle.adjustment_895.specs.AnswerRecord.{AnswerRecord};
 ghost use Rattle.adjustment_895.specs.AnswerText.{Is895, IsAnswer};
 ghost use Rattle.adjustment_895.specs.WrittenText.{seal_of, written_of};

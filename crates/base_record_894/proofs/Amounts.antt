@@ -15,8 +15,8 @@ use Rattle.dsd_values.specs.declared.extra.Extra.{Extra}
 use Rattle.dsd_values.specs.declared.extra.Extra.TheVariants.{Allow, Note}
 use Rattle.dsd_values.specs.declared.limits.TheConstants.{MOST_LINES}
 use Rattle.dsd_values.specs.declared.line.Line.{Line}
-use Rattle.segments.specs.Allowances.{has_size}
-use Rattle.segments.specs.Extras.{AreExtras, HasExtras, IsSized}
+use Rattle.transaction_set.specs.Allowances.{has_size}
+use Rattle.transaction_set.specs.Extras.{AreExtras, HasExtras, IsSized}
 
 -- ---- stated amounts
 

@@ -6,44 +6,44 @@ use Rattle.dsd_pricing.specs.Pricing.{priced, quantities, totals_of}
 use Rattle.dsd_values.specs.declared.cents.TheConstants.Cents.{MAX as MOST_CENTS}
 use Rattle.dsd_values.specs.declared.extra.Extra.{Extra}
 use Rattle.dsd_values.specs.declared.line.Line.{Line}
-use Rattle.segments.specs.Extras.{HasExtras}
-use Rattle.segments.specs.Tables.{totals_fault, totals_in}
+use Rattle.transaction_set.specs.Extras.{HasExtras}
+use Rattle.transaction_set.specs.Tables.{totals_fault, totals_in}
 use Rattle.dsd_values.specs.declared.limits.TheConstants.{MOST_LINES, SET_BYTES}
 use Rattle.std.specs.Option.{is_some}
 use Rattle.dsd_values.specs.SignatureRecord.{SignatureRecord}
 use Rattle.segments.specs.Views.{Seg, element_of}
-use Rattle.segments.specs.Kinds.{kind_of, next_phase, is_done}
-use Rattle.segments.specs.SoFar.{SoFar, kept, phase_in}
+use Rattle.transaction_set.specs.Kinds.{kind_of, next_phase, is_done}
+use Rattle.transaction_set.specs.SoFar.{SoFar, kept, phase_in}
 use Rattle.segments.specs.Elements.{◌or_else◌}
-use Rattle.segments.specs.Reasons.{as_value, admission}
-use Rattle.segments.specs.Grammar.{IsSound}
+use Rattle.transaction_set.specs.Reasons.{as_value, admission}
+use Rattle.transaction_set.specs.Grammar.{IsSound}
 use Rattle.segments.specs.SegmentSpelling.{SpellsSegments}
 use Rattle.segments.specs.SegmentCut.{Cut, cut_of}
 use Rattle.segments.specs.declared.segment_fault.SegmentFault.{SegmentFault}
-use Rattle.segments.specs.declared.seal.Seal.{Seal}
-use Rattle.segments.specs.declared.stated.StatedTotals.{StatedTotals}
-use Rattle.segments.specs.declared.kind.Kind.{Kind}
-use Rattle.segments.specs.declared.kind.Kind.TheVariants as kinds
-use Rattle.segments.specs.declared.kind.Form.TheVariants as forms
-use Rattle.segments.specs.declared.phase.Phase.{Phase}
-use Rattle.segments.specs.declared.phase.Phase.TheVariants as phases
+use Rattle.transaction_set.specs.declared.seal.Seal.{Seal}
+use Rattle.transaction_set.specs.declared.stated.StatedTotals.{StatedTotals}
+use Rattle.transaction_set.specs.declared.kind.Kind.{Kind}
+use Rattle.transaction_set.specs.declared.kind.Kind.TheVariants as kinds
+use Rattle.transaction_set.specs.declared.kind.Form.TheVariants as forms
+use Rattle.transaction_set.specs.declared.phase.Phase.{Phase}
+use Rattle.transaction_set.specs.declared.phase.Phase.TheVariants as phases
 use Rattle.segments.proofs.Cutting.{spelled_of-cut, cut_of-spelled}
-use Rattle.segments.proofs.Small.{both_none, no_value, none_then, not_when, same_number}
-use Rattle.segments.proofs.Rest.{IsAt, Read}
-use Rattle.segments.proofs.Whole.{AreShort, and_both, are_short, both_and, end_at, end_of, no_fault}
-use Rattle.segments.proofs.Behind.{no_extras}
-use Rattle.segments.proofs.Keeps.{Sound, is_sound, keeps, at_next, refused_none, none_refused, ended_none, none_ended, done_is, MayStand, may_stand, admitted}
+use Rattle.transaction_set.proofs.Small.{both_none, no_value, none_then, not_when, same_number}
+use Rattle.transaction_set.proofs.Rest.{IsAt, Read}
+use Rattle.transaction_set.proofs.Whole.{AreShort, and_both, are_short, both_and, end_at, end_of, no_fault}
+use Rattle.transaction_set.proofs.Behind.{no_extras}
+use Rattle.transaction_set.proofs.Keeps.{Sound, is_sound, keeps, at_next, refused_none, none_refused, ended_none, none_ended, done_is, MayStand, may_stand, admitted}
 use Rattle.base_record_894.specs.BaseRecord.{BaseRecord}
 use Rattle.base_record_894.specs.Grammar.{shared_of, AreSegments, FromStart}
 use Rattle.base_record_894.specs.RecordText.{Is894}
 use Rattle.base_record_894.specs.Said.{Said, nothing, own_reason, reason_of, rows_reason, kept_by, after, has_head}
 use Rattle.base_record_894.specs.FirstRefusal.{judged}
-use Rattle.segments.specs.Refusal.{refusal_from, said_by}
+use Rattle.transaction_set.specs.Refusal.{refusal_from, said_by}
 use Rattle.base_record_894.specs.ReadParts.{IsReadFrom, record_of, seal_of}
 use Rattle.base_record_894.specs.declared.head.Head.{Head}
 use Rattle.base_record_894.specs.declared.parts.Parts.{Parts}
 use Rattle.base_record_894.proofs.Amounts.{cents_low, priced_totals, same_amount, totals_priced}
-use Rattle.segments.proofs.Faultless.{totals_right}
+use Rattle.transaction_set.proofs.Faultless.{totals_right}
 use Rattle.base_record_894.proofs.Moves.{Rest894, head_of, back, forth}
 
 record Stands (m : Said) (seg : Seg) : Type 0 where

@@ -15,20 +15,20 @@ use Rattle.dsd_values.specs.declared.quantity.TheConstants.Quantity.{MAX as MOST
 use Rattle.dsd_values.proofs.Again.{flag_again}
 use Rattle.dsd_values.proofs.Laws.{number_law}
 use Rattle.segments.specs.Views.{Seg, element_of}
-use Rattle.segments.specs.Extras.{HasExtras}
-use Rattle.segments.specs.Grammar.{IsSound, Shared}
-use Rattle.segments.specs.SetWriting.{control_text}
+use Rattle.transaction_set.specs.Extras.{HasExtras}
+use Rattle.transaction_set.specs.Grammar.{IsSound, Shared}
+use Rattle.transaction_set.specs.SetWriting.{control_text}
 use Rattle.segments.specs.SegmentSpelling.{IsLongSegment}
-use Rattle.segments.specs.SoundLines.{AreSoundExtras, AreSoundLines, IsSoundExtra, IsSoundLine}
-use Rattle.segments.specs.declared.kind.Form.TheVariants as forms
-use Rattle.segments.specs.declared.seal.Seal.{Seal}
-use Rattle.segments.proofs.Making.{made, set_lines}
-use Rattle.segments.proofs.PartedTexts.{no_tail}
-use Rattle.segments.proofs.Plain.{day_plain, delivery_number_plain, signature_plain, totals_plain}
-use Rattle.segments.proofs.RowsSay.{SaysAgain}
-use Rattle.segments.proofs.SetRows.{are_long}
-use Rattle.segments.proofs.Sounding.{HasFew, line_behind, said_all, word_plain}
-use Rattle.segments.proofs.Tells.{behind_head_tells}
+use Rattle.transaction_set.specs.SoundLines.{AreSoundExtras, AreSoundLines, IsSoundExtra, IsSoundLine}
+use Rattle.transaction_set.specs.declared.kind.Form.TheVariants as forms
+use Rattle.transaction_set.specs.declared.seal.Seal.{Seal}
+use Rattle.transaction_set.proofs.Making.{made, set_lines}
+use Rattle.transaction_set.proofs.PartedTexts.{no_tail}
+use Rattle.transaction_set.proofs.Plain.{day_plain, delivery_number_plain, signature_plain, totals_plain}
+use Rattle.transaction_set.proofs.RowsSay.{SaysAgain}
+use Rattle.transaction_set.proofs.SetRows.{are_long}
+use Rattle.transaction_set.proofs.Sounding.{HasFew, line_behind, said_all, word_plain}
+use Rattle.transaction_set.proofs.Tells.{behind_head_tells}
 use Rattle.base_record_894.specs.BaseRecord.{BaseRecord}
 use Rattle.base_record_894.specs.Grammar.{AreSegments, IsHead, shared_of}
 use Rattle.base_record_894.specs.Making.{IsPlainHead, head_alone, record_made, unless_unpriced}

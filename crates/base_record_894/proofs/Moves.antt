@@ -8,24 +8,25 @@ use Rattle.dsd_values.specs.declared.extra.Extra.{Extra}
 use Rattle.dsd_values.specs.declared.extra.Extra.TheVariants.{Allow, Note}
 use Rattle.dsd_values.specs.declared.line.Line.{Line}
 use Rattle.segments.specs.Views.{Seg}
-use Rattle.segments.specs.Tables.{totals_in}
-use Rattle.segments.specs.Kinds.{kind_of, next_phase}
-use Rattle.segments.specs.Extras.{is_note, kept_text}
-use Rattle.segments.specs.SoFar.{in_line, kept, phase_in}
-use Rattle.segments.specs.Reasons.{course_reason}
-use Rattle.segments.specs.Grammar.{Shape, Body, Closing, Extras, Items, IsSound}
-use Rattle.segments.specs.declared.seal.Seal.{Seal}
-use Rattle.segments.specs.declared.kind.Kind.{Kind}
-use Rattle.segments.specs.declared.kind.Kind.TheVariants as kinds
-use Rattle.segments.specs.declared.kind.Form.TheVariants as forms
-use Rattle.segments.specs.declared.phase.Phase.{Phase}
-use Rattle.segments.specs.declared.phase.Phase.TheVariants as phases
-use Rattle.segments.specs.declared.stated.StatedTotals.{StatedTotals}
-use Rattle.segments.proofs.Small.{both_none, none_then, no_value, value_none, at_ok, ok_at, ok_said, when_not, number_same}
-use Rattle.segments.proofs.Faultless.{start_right, right_start}
-use Rattle.segments.proofs.Rest.{RestAt, Left, Ending, AfterItems, IsAt}
-use Rattle.segments.proofs.Back.{moves, is_course, back as course_back}
-use Rattle.segments.proofs.Forth as course_forth
+use Rattle.transaction_set.specs.Tables.{totals_in}
+use Rattle.transaction_set.specs.Kinds.{kind_of, next_phase}
+use Rattle.transaction_set.specs.Extras.{is_note}
+use Rattle.segments.specs.Elements.{kept_text}
+use Rattle.transaction_set.specs.SoFar.{in_line, kept, phase_in}
+use Rattle.transaction_set.specs.Reasons.{course_reason}
+use Rattle.transaction_set.specs.Grammar.{Shape, Body, Closing, Extras, Items, IsSound}
+use Rattle.transaction_set.specs.declared.seal.Seal.{Seal}
+use Rattle.transaction_set.specs.declared.kind.Kind.{Kind}
+use Rattle.transaction_set.specs.declared.kind.Kind.TheVariants as kinds
+use Rattle.transaction_set.specs.declared.kind.Form.TheVariants as forms
+use Rattle.transaction_set.specs.declared.phase.Phase.{Phase}
+use Rattle.transaction_set.specs.declared.phase.Phase.TheVariants as phases
+use Rattle.transaction_set.specs.declared.stated.StatedTotals.{StatedTotals}
+use Rattle.transaction_set.proofs.Small.{both_none, none_then, no_value, value_none, at_ok, ok_at, ok_said, when_not, number_same}
+use Rattle.transaction_set.proofs.Faultless.{start_right, right_start}
+use Rattle.transaction_set.proofs.Rest.{RestAt, Left, Ending, AfterItems, IsAt}
+use Rattle.transaction_set.proofs.Back.{moves, is_course, back as course_back}
+use Rattle.transaction_set.proofs.Forth as course_forth
 use Rattle.base_record_894.specs.BaseRecord.{BaseRecord}
 use Rattle.base_record_894.specs.HeadTable.{head_fault, head_in, no_day}
 use Rattle.base_record_894.specs.Grammar.{IsHead, FromStart, FromHead, shared_of}

@@ -5,23 +5,23 @@ use Rattle.dsd_values.specs.declared.extra.Extra.{Extra}
 use Rattle.dsd_values.specs.declared.flag.Flag.{Flag}
 use Rattle.dsd_values.specs.declared.line.Line.{Line}
 use Rattle.dsd_values.specs.SignatureRecord.{SignatureRecord}
-use Rattle.segments.proofs.Small.{same_some}
+use Rattle.transaction_set.proofs.Small.{same_some}
 use Rattle.segments.specs.SegmentCut.{cut_of}
-use Rattle.segments.specs.declared.kind.Form.TheVariants as forms
-use Rattle.segments.proofs.Making.{set_few}
-use Rattle.segments.proofs.Whole.{long_ones}
-use Rattle.segments.specs.Refusal.{Answers, Refusal}
+use Rattle.transaction_set.specs.declared.kind.Form.TheVariants as forms
+use Rattle.transaction_set.proofs.Making.{set_few}
+use Rattle.transaction_set.proofs.Whole.{long_ones}
+use Rattle.transaction_set.specs.Refusal.{Answers, Refusal}
 use Rattle.segments.specs.declared.segment_fault.SegmentFault.{SegmentFault}
-use Rattle.segments.specs.declared.set_fault.SetFault.{SetFault}
-use Rattle.segments.specs.declared.set_fault.SetFault.TheVariants as errors
-use Rattle.segments.specs.declared.seal.Seal.{Seal}
-use Rattle.segments.specs.declared.stated.StatedTotals.{StatedTotals}
+use Rattle.transaction_set.specs.declared.set_fault.SetFault.{SetFault}
+use Rattle.transaction_set.specs.declared.set_fault.SetFault.TheVariants as errors
+use Rattle.transaction_set.specs.declared.seal.Seal.{Seal}
+use Rattle.transaction_set.specs.declared.stated.StatedTotals.{StatedTotals}
 use Rattle.base_record_894.specs.BaseRecord.{BaseRecord}
 use Rattle.base_record_894.specs.Grammar.{IsHead, shared_of}
 use Rattle.base_record_894.specs.RecordText.{Is894, IsBase}
 use Rattle.base_record_894.specs.Said.{nothing}
 use Rattle.base_record_894.specs.FirstRefusal.{judged, refusal_of}
-use Rattle.segments.specs.Refusal.{refusal_from, said_by}
+use Rattle.transaction_set.specs.Refusal.{refusal_from, said_by}
 use Rattle.base_record_894.specs.ReadParts.{IsReadFrom, record_of, seal_of}
 use Rattle.base_record_894.specs.declared.head.Head.{Head}
 use Rattle.base_record_894.specs.declared.parts.Parts.{Parts}

@@ -4,15 +4,15 @@ use Rattle.dsd_values.specs.declared.extra.Extra.{Extra}
 use Rattle.dsd_values.specs.declared.line.Line.{Line}
 use Rattle.segments.specs.Views.{Seg}
 use Rattle.segments.specs.Elements.{◌or_else◌}
-use Rattle.segments.specs.Tables.{totals_fault, totals_in}
-use Rattle.segments.specs.SoFar.{SoFar, kept}
-use Rattle.segments.specs.Reasons.{Says, as_value}
-use Rattle.segments.specs.declared.kind.Kind.TheVariants as kinds
-use Rattle.segments.specs.declared.stated.StatedTotals.{StatedTotals}
-use Rattle.segments.specs.declared.set_fault.SetFault.{SetFault}
-use Rattle.segments.specs.declared.set_fault.SetFault.TheVariants as errors
-use Rattle.segments.specs.declared.set_fault.SetReason.{SetReason}
-use Rattle.segments.proofs.Small.{none_then}
+use Rattle.transaction_set.specs.Tables.{totals_fault, totals_in}
+use Rattle.transaction_set.specs.SoFar.{SoFar, kept}
+use Rattle.transaction_set.specs.Reasons.{Says, as_value}
+use Rattle.transaction_set.specs.declared.kind.Kind.TheVariants as kinds
+use Rattle.transaction_set.specs.declared.stated.StatedTotals.{StatedTotals}
+use Rattle.transaction_set.specs.declared.set_fault.SetFault.{SetFault}
+use Rattle.transaction_set.specs.declared.set_fault.SetFault.TheVariants as errors
+use Rattle.transaction_set.specs.declared.set_fault.SetReason.{SetReason}
+use Rattle.transaction_set.proofs.Small.{none_then}
 use Rattle.base_record_894.specs.Said.{Said, kept_by, own_reason, rows_reason}
 use Rattle.base_record_894.specs.declared.head.Head.{Head}
 

@@ -13,18 +13,18 @@ use Rattle.dsd_values.specs.Spelling.{flag_text}
 use Rattle.dsd_values.specs.Writing.{day_text}
 use Rattle.dsd_values.proofs.Again.{IsReadAs, day_again, delivery_number_again, flag_again, word_again}
 use Rattle.segments.specs.Views.{Seg, element_of}
-use Rattle.segments.specs.RowsWritten.{first_long}
+use Rattle.transaction_set.specs.RowsWritten.{first_long}
 use Rattle.segments.specs.SegmentSpelling.{IsSegment}
 use Rattle.segments.specs.SegmentWriting.{segments_of, text_of}
-use Rattle.segments.specs.SetWriting.{Row, control_text, kept_row, start_row}
-use Rattle.segments.specs.declared.kind.Form.TheVariants as forms
-use Rattle.segments.specs.declared.texts.TheConstants.{MOST_CONTROL_NUMBER}
-use Rattle.segments.proofs.PartedTexts.{IsTail, tail_is}
-use Rattle.segments.proofs.RowsSay.{SaysAgain, reads_at, row_segment, tail_again}
-use Rattle.segments.proofs.RowsShape.{IsSealable}
-use Rattle.segments.proofs.SetRows.{AreAsked, are_asked, are_long, are_sealed, set_reshaped}
-use Rattle.segments.proofs.Tells.{IsLong}
-use Rattle.segments.proofs.WrittenSets.{written_set}
+use Rattle.transaction_set.specs.SetWriting.{Row, control_text, kept_row, start_row}
+use Rattle.transaction_set.specs.declared.kind.Form.TheVariants as forms
+use Rattle.segments.specs.declared.segment_writer.TheConstants.{MOST_CONTROL_NUMBER}
+use Rattle.transaction_set.proofs.PartedTexts.{IsTail, tail_is}
+use Rattle.transaction_set.proofs.RowsSay.{SaysAgain, reads_at, row_segment, tail_again}
+use Rattle.transaction_set.proofs.RowsShape.{IsSealable}
+use Rattle.transaction_set.proofs.SetRows.{AreAsked, are_asked, are_long, are_sealed, set_reshaped}
+use Rattle.transaction_set.proofs.Tells.{IsLong}
+use Rattle.transaction_set.proofs.WrittenSets.{written_set}
 use Rattle.segments.specs.SetUnits.{IsSetText}
 use Rattle.base_record_894.specs.BaseRecord.{BaseRecord, amount_of}
 use Rattle.base_record_894.specs.Grammar.{AreSegments, IsHead, shared_of}

@@ -1,6 +1,6 @@
 -- The first refusal of a text that is to be a base record.
 use Rattle.std.specs.Prelude.{ℕ, List, Option}
-use Rattle.segments.specs.Refusal.{Judged, Refusal, first_refusal}
+use Rattle.transaction_set.specs.Refusal.{Judged, Refusal, first_refusal}
 use Rattle.base_record_894.specs.Said.{Said, nothing, reason_of, after, is_whole}
 
 -- how its segments are judged

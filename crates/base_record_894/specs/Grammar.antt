@@ -8,10 +8,10 @@ use Rattle.dsd_values.specs.declared.extra.Extra.{Extra}
 use Rattle.dsd_values.specs.declared.line.Line.{Line}
 use Rattle.segments.specs.Views.{Seg, element_of}
 use Rattle.segments.specs.Elements.{tail_from}
-use Rattle.segments.specs.Grammar.{Shape, Shared, One, IsStart, BehindHead}
-use Rattle.segments.specs.declared.kind.Form.TheVariants as forms
-use Rattle.segments.specs.declared.kind.Kind.TheVariants as kinds
-use Rattle.segments.specs.declared.seal.Seal.{Seal}
+use Rattle.transaction_set.specs.Grammar.{Shape, Shared, One, IsStart, BehindHead}
+use Rattle.transaction_set.specs.declared.kind.Form.TheVariants as forms
+use Rattle.transaction_set.specs.declared.kind.Kind.TheVariants as kinds
+use Rattle.transaction_set.specs.declared.seal.Seal.{Seal}
 use Rattle.base_record_894.specs.BaseRecord.{BaseRecord}
 
 -- G82: each element is a spelling of the field that stands beside it

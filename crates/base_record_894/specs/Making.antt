@@ -7,7 +7,7 @@ use Rattle.dsd_values.specs.Calendar.{is_date}
 use Rattle.dsd_values.specs.SignatureRecord.{SignatureRecord}
 use Rattle.dsd_values.specs.declared.extra.Extra.{Extra}
 use Rattle.dsd_values.specs.declared.line.Line.{Line}
-use Rattle.segments.specs.SoundLines.{IsPlainNumber, IsPlainWord}
+use Rattle.transaction_set.specs.SoundLines.{IsPlainNumber, IsPlainWord}
 use Rattle.base_record_894.specs.BaseRecord.{BaseRecord}
 use Rattle.base_record_894.specs.declared.head.BaseHead.{BaseHead}
 use Rattle.base_record_894.specs.declared.head.Head.{Head}

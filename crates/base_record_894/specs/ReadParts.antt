@@ -1,7 +1,7 @@
 -- What the reader of a base record hands on: from the segments one by one to the parts of the record.
 use Rattle.std.specs.Prelude.{◌≡◌, Some}
-use Rattle.segments.specs.Closing.{IsClosed}
-use Rattle.segments.specs.declared.seal.Seal.{Seal}
+use Rattle.transaction_set.specs.Closing.{IsClosed}
+use Rattle.transaction_set.specs.declared.seal.Seal.{Seal}
 use Rattle.base_record_894.specs.BaseRecord.{BaseRecord}
 use Rattle.base_record_894.specs.Said.{Said}
 use Rattle.base_record_894.specs.declared.parts.Parts.{Parts}

@@ -4,9 +4,9 @@ use Rattle.dsd_pricing.specs.Pricing.{quantities, totals_of}
 use Rattle.dsd_values.specs.declared.limits.TheConstants.{SET_BYTES}
 use Rattle.segments.specs.Views.{Seg}
 use Rattle.segments.specs.SegmentSpelling.{IsLongSegment, SpellsSegments}
-use Rattle.segments.specs.Grammar.{IsSound}
-use Rattle.segments.specs.SoundLines.{HaveFew}
-use Rattle.segments.specs.declared.seal.Seal.{Seal}
+use Rattle.transaction_set.specs.Grammar.{IsSound}
+use Rattle.transaction_set.specs.SoundLines.{HaveFew}
+use Rattle.transaction_set.specs.declared.seal.Seal.{Seal}
 use Rattle.base_record_894.specs.BaseRecord.{BaseRecord}
 use Rattle.base_record_894.specs.Grammar.{AreSegments}
 

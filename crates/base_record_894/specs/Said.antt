@@ -7,19 +7,19 @@ use Rattle.dsd_values.specs.declared.extra.Extra.{Extra}
 use Rattle.dsd_values.specs.declared.line.Line.{Line}
 use Rattle.segments.specs.Views.{Seg}
 use Rattle.segments.specs.Elements.{◌or_else◌}
-use Rattle.segments.specs.Tables.{totals_fault, totals_in}
-use Rattle.segments.specs.Closing.{is_closed}
-use Rattle.segments.specs.Kinds.{kind_of, next_phase}
-use Rattle.segments.specs.SoFar.{SoFar, kept, phase_in}
-use Rattle.segments.specs.SoFar as course
-use Rattle.segments.specs.Reasons.{when, as_value, admission, course_reason}
-use Rattle.segments.specs.declared.kind.Form.TheVariants as forms
-use Rattle.segments.specs.declared.kind.Kind.{Kind}
-use Rattle.segments.specs.declared.kind.Kind.TheVariants as kinds
-use Rattle.segments.specs.declared.phase.Phase.{Phase}
-use Rattle.segments.specs.declared.stated.StatedTotals.{StatedTotals}
-use Rattle.segments.specs.declared.set_fault.SetReason.{SetReason}
-use Rattle.segments.specs.declared.set_fault.SetReason.TheVariants as reasons
+use Rattle.transaction_set.specs.Tables.{totals_fault, totals_in}
+use Rattle.transaction_set.specs.Closing.{is_closed}
+use Rattle.transaction_set.specs.Kinds.{kind_of, next_phase}
+use Rattle.transaction_set.specs.SoFar.{SoFar, kept, phase_in}
+use Rattle.transaction_set.specs.SoFar as course
+use Rattle.transaction_set.specs.Reasons.{when, as_value, admission, course_reason}
+use Rattle.transaction_set.specs.declared.kind.Form.TheVariants as forms
+use Rattle.transaction_set.specs.declared.kind.Kind.{Kind}
+use Rattle.transaction_set.specs.declared.kind.Kind.TheVariants as kinds
+use Rattle.transaction_set.specs.declared.phase.Phase.{Phase}
+use Rattle.transaction_set.specs.declared.stated.StatedTotals.{StatedTotals}
+use Rattle.transaction_set.specs.declared.set_fault.SetReason.{SetReason}
+use Rattle.transaction_set.specs.declared.set_fault.SetReason.TheVariants as reasons
 use Rattle.base_record_894.specs.HeadTable.{head_fault, head_in}
 use Rattle.base_record_894.specs.declared.head.Head.{Head}
 

@@ -9,12 +9,12 @@ use Rattle.dsd_pricing.specs.declared.amounts.Totals.{Totals}
 use Rattle.dsd_pricing.specs.declared.fault.PriceFault.{PriceFault}
 use Rattle.dsd_pricing.specs.declared.fault.WriteFault.{WriteFault}
 use Rattle.dsd_pricing.specs.declared.fault.WriteFault.TheVariants.{Price}
-use Rattle.segments.specs.RowsWritten.{first_long}
+use Rattle.transaction_set.specs.RowsWritten.{first_long}
 use Rattle.segments.specs.SegmentWriting.{text_of}
-use Rattle.segments.specs.SetWriting.{Row, body_rows, control_text, kept_row, row_of, sealed, start_row}
-use Rattle.segments.specs.declared.kind.Form.TheVariants as forms
-use Rattle.segments.specs.declared.seal.Seal.{Seal}
-use Rattle.segments.specs.declared.stated.StatedTotals.{StatedTotals}
+use Rattle.transaction_set.specs.SetWriting.{Row, body_rows, control_text, kept_row, row_of, sealed, start_row}
+use Rattle.transaction_set.specs.declared.kind.Form.TheVariants as forms
+use Rattle.transaction_set.specs.declared.seal.Seal.{Seal}
+use Rattle.transaction_set.specs.declared.stated.StatedTotals.{StatedTotals}
 use Rattle.base_record_894.specs.BaseRecord.{BaseRecord, amount_of}
 
 -- G82: the head

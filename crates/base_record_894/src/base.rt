@@ -3,7 +3,7 @@
 ghost use Rattle.std.specs.Prelude.{◌≡◌, ◌≤◌, IfOk, false, length, pos};
 ghost use Rattle.dsd_pricing.specs.Pricing.{priced, quantities as sum_of_quantities, totals_of};
 ghost use Rattle.dsd_values.specs.declared.limits.TheConstants.{MOST_LINES};
-ghost use Rattle.segments.specs.SoundLines.{AreSoundExtras, AreSoundLines};
+ghost use Rattle.transaction_set.specs.SoundLines.{AreSoundExtras, AreSoundLines};
 ghost use Rattle.base_record_894.specs.BaseRecord.{amount_of as cents_of_rows};
 ghost use Rattle.base_record_894.specs.Making.{record_made, unless_unpriced};
 ghost use Rattle.base_record_894.specs.ReadParts.{record_of, seal_of};
@@ -15,7 +15,7 @@ use crate::notes::Notes;
 use crate::parts::Parts;
 use dsd_pricing::{PriceFault, amount_of, quantities};
 use dsd_values::{Cents, Day, DeliveryNumber, Extras, Flag, Kept, Lines, Memory, Signature, Word};
-use segments::{Closed, Seal, StatedTotals};
+use transaction_set::{Closed, Seal, StatedTotals};
 use std::alloc::Global;
 use std::marker::Model;
 

@@ -1,9 +1,9 @@
 //! Reading a base record from its text.
 
 ghost use Rattle.std.specs.Prelude.{◌≡◌, length, IfOk, None};
-ghost use Rattle.segments.specs.Refusal.{Answers, IsWithin, said_by};
+ghost use Rattle.transaction_set.specs.Refusal.{Answers, IsWithin, said_by};
 ghost use Rattle.segments.specs.SegmentCut.{cut_of};
-ghost use Rattle.segments.specs.declared.seal.Seal.{Seal as SealValue};
+ghost use Rattle.transaction_set.specs.declared.seal.Seal.{Seal as SealValue};
 ghost use Rattle.base_record_894.specs.BaseRecord.{BaseRecord};
 ghost use Rattle.base_record_894.specs.RecordText.{Is894};
 ghost use Rattle.base_record_894.specs.Said.{nothing};
@@ -13,7 +13,8 @@ ghost use Rattle.base_record_894.specs.ReadParts.{IsReadFrom};
 use crate::base::{Base, seal_up};
 use crate::parts::Parts;
 use crate::reader::Reader;
-use segments::{Seal, SegmentReader, SetFault, unreadable};
+use segments::SegmentReader;
+use transaction_set::{Seal, SetFault, unreadable};
 use std::alloc::Global;
 
 /// Reads a base record: its value and its seal.

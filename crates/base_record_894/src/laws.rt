@@ -7,9 +7,9 @@ ghost use Rattle.dsd_values.specs.SignatureRecord.{IsSignature, SignatureRecord}
 ghost use Rattle.dsd_values.specs.declared.extra.Extra.{Extra};
 ghost use Rattle.dsd_values.specs.declared.limits.TheConstants.{MOST_LINES};
 ghost use Rattle.dsd_values.specs.declared.line.Line.{Line};
-ghost use Rattle.segments.specs.SoundLines.{AreSoundExtras, AreSoundLines};
-ghost use Rattle.segments.specs.Refusal.{Refusal};
-ghost use Rattle.segments.specs.declared.seal.Seal.{Seal};
+ghost use Rattle.transaction_set.specs.SoundLines.{AreSoundExtras, AreSoundLines};
+ghost use Rattle.transaction_set.specs.Refusal.{Refusal};
+ghost use Rattle.transaction_set.specs.declared.seal.Seal.{Seal};
 ghost use Rattle.base_record_894.specs.BaseRecord.{BaseRecord};
 ghost use Rattle.base_record_894.specs.FirstRefusal.{refusal_of};
 ghost use Rattle.base_record_894.specs.Making.{IsPlainHead, record_made};

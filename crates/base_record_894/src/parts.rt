@@ -1,7 +1,7 @@
 //! What was read of a base record.
 
 use crate::head::Head;
-use segments::Closed;
+use transaction_set::Closed;
 
 /// The head, and what both sets have.
 #[derive(Drop)]

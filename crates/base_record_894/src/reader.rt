@@ -1,17 +1,18 @@
 //! The reader of a base record, pushed one segment at a time.
 
 ghost use Rattle.std.specs.Prelude.{◌≡◌, ℕ, ◌+◌, ◌<◌, ◌≤◌, List, [], ◌∷◌, length, IfOk, OnOk, None, Some};
-ghost use Rattle.segments.specs.Reasons.{Says};
-ghost use Rattle.segments.specs.Refusal.{Answers, ended_at};
+ghost use Rattle.transaction_set.specs.Reasons.{Says};
+ghost use Rattle.transaction_set.specs.Refusal.{Answers, ended_at};
 ghost use Rattle.base_record_894.specs.Said.{nothing, own_reason, reason_of, rows_reason, kept_by, after, is_whole};
 ghost use Rattle.base_record_894.specs.ReadParts.{IsReadFrom};
-ghost use Rattle.segments.specs.declared.kind.Kind.TheVariants as kinds;
+ghost use Rattle.transaction_set.specs.declared.kind.Kind.TheVariants as kinds;
 
 use crate::head::{Head, read_head};
 use crate::parts::Parts;
 use crate::rows::compare_totals;
 use dsd_values::{Memory, SET_BYTES};
-use segments::{Course, Form, Kind, Segment, SetFault, SetReason, at};
+use segments::Segment;
+use transaction_set::{Course, Form, Kind, SetFault, SetReason, at};
 use std::alloc::Global;
 use std::marker::Model;
 
@@ -44,7 +45,7 @@ impl Reader {
     }
 
     /// Takes one more segment.
-    #[tactic(auto, unfolding(crate::specs::Said::kept_by, crate::specs::Said::reason_of, segments::specs::SoFar::kept, segments::specs::SoFar::moved))]
+    #[tactic(auto, unfolding(crate::specs::Said::kept_by, crate::specs::Said::reason_of, transaction_set::specs::SoFar::kept, transaction_set::specs::SoFar::moved))]
     pub fn step(&mut self, segment: &Segment<'_>) -> Result<(), SetFault>
         requires { self.old.course.count ≤ SET_BYTES }
         ensures exact { Says result segment.now.start (reason_of self.old segment.now) (λ _. self.new ≡ after self.old segment.now) }
@@ -62,7 +63,7 @@ impl Reader {
     }
 
     /// Keeps what a segment of this kind says.
-    #[tactic(auto, unfolding(crate::specs::Said::kept_by, segments::specs::SoFar::kept))]
+    #[tactic(auto, unfolding(crate::specs::Said::kept_by, transaction_set::specs::SoFar::kept))]
     fn keep(&mut self, kind: Kind, segment: &Segment<'_>) -> Result<(), SetFault>
         requires { self.old.course.count ≤ SET_BYTES }
         ensures { Says result segment.now.start (own_reason self.old segment.now kind)
@@ -78,7 +79,7 @@ impl Reader {
     /// Keeps the head.
     // Not inlined, as it makes more room ready than all other kinds together.
     #[inline(never)]
-    #[tactic(auto, unfolding(crate::specs::Said::kept_by, segments::specs::SoFar::kept))]
+    #[tactic(auto, unfolding(crate::specs::Said::kept_by, transaction_set::specs::SoFar::kept))]
     fn keep_head(&mut self, segment: &Segment<'_>) -> Result<(), SetFault>
         ensures { Says result segment.now.start (own_reason self.old segment.now kinds.Head)
             (λ _. self.new ≡ kept_by self.old segment.now kinds.Head self.old.course.phase self.old.course.count self.old.course.check) }
@@ -88,7 +89,7 @@ impl Reader {
     }
 
     /// Keeps the totals where they are those of the rows.
-    #[tactic(auto, unfolding(crate::specs::Said::kept_by, segments::specs::SoFar::kept))]
+    #[tactic(auto, unfolding(crate::specs::Said::kept_by, transaction_set::specs::SoFar::kept))]
     fn keep_totals(&mut self, segment: &Segment<'_>) -> Result<(), SetFault>
         requires { self.old.course.count ≤ SET_BYTES }
         ensures { Says result segment.now.start (own_reason self.old segment.now kinds.Totals)

@@ -2,13 +2,14 @@
 
 ghost use Rattle.std.specs.Prelude.{◌≡◌, ◌≤◌, length, All, Err, false};
 ghost use Rattle.dsd_values.specs.declared.limits.TheConstants.{MOST_LINES};
-ghost use Rattle.segments.specs.Extras.{AreExtras, HasExtras};
-ghost use Rattle.segments.specs.Reasons.{Says};
+ghost use Rattle.transaction_set.specs.Extras.{AreExtras, HasExtras};
+ghost use Rattle.transaction_set.specs.Reasons.{Says};
 ghost use Rattle.base_record_894.specs.Said.{rows_reason};
 
 use dsd_pricing::{quantities, sum_of};
 use dsd_values::{Extra, Line};
-use segments::{Segment, SetFault, SetReason, StatedTotals, refuse};
+use segments::Segment;
+use transaction_set::{SetFault, SetReason, StatedTotals, refuse};
 
 /// Refuses stated totals that are not those of these rows.
 pub fn compare_totals(

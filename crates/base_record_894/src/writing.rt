@@ -4,18 +4,19 @@ ghost use Rattle.std.specs.Prelude.{◌≡◌, ◌≢◌, ◌≤◌, [], ◌∷�
 ghost use Rattle.dsd_values.specs.Answers.{Gives, UnlessMemory};
 ghost use Rattle.dsd_pricing.specs.WholeText.{unless_too_long};
 ghost use Rattle.dsd_pricing.specs.declared.fault.PriceFault.{PriceFault as Unpriced};
-ghost use Rattle.segments.specs.RowsWritten.{after_writing, first_long, no_rows, text_after};
+ghost use Rattle.transaction_set.specs.RowsWritten.{after_writing, first_long, no_rows, text_after};
 ghost use Rattle.segments.specs.SegmentSpelling.{IsSegment};
 ghost use Rattle.segments.specs.SegmentWriting.{IsWrittenText, text_of};
 ghost use Rattle.segments.specs.SetUnits.{IsSetText};
-ghost use Rattle.segments.specs.declared.texts.TheConstants.{MOST_CONTROL_NUMBER};
+ghost use Rattle.segments.specs.declared.segment_writer.TheConstants.{MOST_CONTROL_NUMBER};
 ghost use Rattle.base_record_894.specs.RecordText.{Is894, IsBase};
 ghost use Rattle.base_record_894.specs.WrittenText.{head_row, later_rows, opened_rows, rows_of, seal_of, written_of};
 
 use crate::base::Base;
 use dsd_pricing::WriteFault;
 use dsd_values::{Check, SET_BYTES, SetText, write_day};
-use segments::{Form, SegmentWriteFault, SetWriter, flag_letter, head_id};
+use segments::SegmentWriteFault;
+use transaction_set::{Form, SetWriter, flag_letter, head_id};
 use std::alloc::Global;
 
 /// Writes a base record under this control number. It is read back as the same record.

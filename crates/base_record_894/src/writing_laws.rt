@@ -2,7 +2,7 @@
 
 ghost use Rattle.std.specs.Prelude.{◌≡◌, ◌≤◌, ℕ, List, Ok};
 ghost use Rattle.segments.specs.SetUnits.{IsSetText};
-ghost use Rattle.segments.specs.declared.texts.TheConstants.{MOST_CONTROL_NUMBER};
+ghost use Rattle.segments.specs.declared.segment_writer.TheConstants.{MOST_CONTROL_NUMBER};
 ghost use Rattle.base_record_894.specs.BaseRecord.{BaseRecord};
 ghost use Rattle.base_record_894.specs.RecordText.{Is894, IsBase};
 ghost use Rattle.base_record_894.specs.WrittenText.{seal_of, written_of};

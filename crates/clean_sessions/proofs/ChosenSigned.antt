@@ -7,7 +7,7 @@ use Rattle.dsd_values.specs.declared.level.TheConstants.Level.{MAX as HIGHEST}
 use Rattle.dsd_values.specs.declared.line.Line.{Line}
 use Rattle.dsd_values.specs.declared.role.Role.{Role}
 use Rattle.dsd_pricing.specs.declared.amounts.Totals.{Totals}
-use Rattle.segments.specs.SoundLines.{AreSoundLines, IsSoundLine}
+use Rattle.transaction_set.specs.SoundLines.{AreSoundLines, IsSoundLine}
 use Rattle.adjustment_895.specs.AnswerRecord.{AnswerRecord}
 use Rattle.adjustment_895.specs.AnswerText.{IsAnswer}
 use Rattle.adjustment_895.specs.Grammar.{IsLevelled}

@@ -9,10 +9,10 @@ use Rattle.dsd_values.specs.declared.limits.TheConstants.{MARK_BYTES}
 use Rattle.dsd_values.specs.declared.fault.ValueFault.{ValueFault}
 use Rattle.dsd_values.proofs.Again.{word_again, word_between_again}
 use Rattle.dsd_values.proofs.Laws.{word_between_spelled, word_of_spelled}
-use Rattle.segments.specs.Grammar.{Closing, IsStart, Shared}
+use Rattle.transaction_set.specs.Grammar.{Closing, IsStart, Shared}
 use Rattle.segments.specs.Views.{Seg, element_of}
-use Rattle.segments.specs.declared.kind.Form.{Form}
-use Rattle.segments.specs.declared.kind.Form.TheVariants as forms
+use Rattle.transaction_set.specs.declared.kind.Form.{Form}
+use Rattle.transaction_set.specs.declared.kind.Form.TheVariants as forms
 use Rattle.base_record_894.specs.BaseRecord.{BaseRecord}
 use Rattle.base_record_894.specs.Grammar.{IsHead, shared_of}
 use Rattle.base_record_894.specs.RecordText.{IsBase}

@@ -5,7 +5,7 @@ use Rattle.std.specs.Result.{result_ok}
 use Rattle.dsd_values.specs.declared.role.Role.{Role}
 use Rattle.dsd_pricing.specs.Pricing.{quantities}
 use Rattle.dsd_pricing.specs.declared.amounts.Totals.{Totals}
-use Rattle.segments.specs.declared.seal.Seal.{Seal}
+use Rattle.transaction_set.specs.declared.seal.Seal.{Seal}
 use Rattle.base_record_894.specs.BaseRecord.{BaseRecord}
 use Rattle.base_record_894.specs.RecordText.{Is894}
 use Rattle.base_record_894.specs.WrittenText.{seal_of}

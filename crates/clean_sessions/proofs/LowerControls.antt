@@ -14,12 +14,12 @@ use Rattle.dsd_values.specs.Spelling.{flag_text, role_text}
 use Rattle.dsd_values.specs.Writing.{check_text, number_text}
 use Rattle.dsd_pricing.specs.WholeText.{unless_too_long, whole}
 use Rattle.dsd_pricing.proofs.WholeTexts.{whole_is, whole_short}
-use Rattle.segments.specs.RowsWritten.{first_long}
+use Rattle.transaction_set.specs.RowsWritten.{first_long}
 use Rattle.segments.specs.SegmentWriting.{in_front, line_of, text_of, without_empty_end}
-use Rattle.segments.specs.SetWriting.{Row, control_text, integrity_row, kept_row, sealing_rows, start_row, trailer_row}
-use Rattle.segments.specs.Kinds.{set_code}
-use Rattle.segments.specs.declared.kind.Form.{Form}
-use Rattle.segments.specs.declared.kind.Form.TheVariants as forms
+use Rattle.transaction_set.specs.SetWriting.{Row, control_text, integrity_row, kept_row, sealing_rows, start_row, trailer_row}
+use Rattle.transaction_set.specs.Kinds.{set_code}
+use Rattle.transaction_set.specs.declared.kind.Form.{Form}
+use Rattle.transaction_set.specs.declared.kind.Form.TheVariants as forms
 use Rattle.segments.specs.declared.segment_write_fault.TheConstants.{SEGMENT_WRITTEN}
 use Rattle.dsd_pricing.specs.Pricing.{totals_of}
 use Rattle.dsd_pricing.specs.declared.amounts.Totals.{Totals}

@@ -6,7 +6,7 @@ use Rattle.dsd_values.specs.declared.delivery_number.TheConstants.{DELIVERY_NUMB
 use Rattle.dsd_values.specs.declared.fault.ValueFault.{ValueFault}
 use Rattle.dsd_values.proofs.Refusals.{all_pass, filled_ok}
 use Rattle.segments.specs.Views.{Seg, element_of}
-use Rattle.segments.specs.declared.seal.Seal.{Seal}
+use Rattle.transaction_set.specs.declared.seal.Seal.{Seal}
 use Rattle.base_record_894.specs.BaseRecord.{BaseRecord}
 use Rattle.base_record_894.specs.Grammar.{AreSegments as AreBaseSegments, IsHead as IsBaseHead}
 use Rattle.adjustment_895.specs.AnswerRecord.{AnswerRecord}

@@ -7,7 +7,7 @@ use Rattle.dsd_values.specs.SignatureRecord.{SignatureRecord}
 use Rattle.dsd_values.specs.declared.line.Line.{Line}
 use Rattle.dsd_values.specs.declared.role.Role.{Role}
 use Rattle.dsd_pricing.specs.declared.amounts.Totals.{Totals}
-use Rattle.segments.specs.declared.seal.Seal.{Seal}
+use Rattle.transaction_set.specs.declared.seal.Seal.{Seal}
 use Rattle.base_record_894.specs.BaseRecord.{BaseRecord}
 use Rattle.base_record_894.specs.RecordText.{IsBase}
 use Rattle.adjustment_895.specs.AnswerRecord.{AnswerRecord}

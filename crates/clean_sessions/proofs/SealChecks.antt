@@ -12,12 +12,12 @@ use Rattle.dsd_values.specs.Spelling.{IsCheckDigit}
 use Rattle.dsd_values.specs.declared.extra.Extra.{Extra}
 use Rattle.dsd_values.specs.declared.line.Line.{Line}
 use Rattle.segments.specs.Views.{Seg, element_of}
-use Rattle.segments.specs.Extras.{kept_text}
-use Rattle.segments.specs.Grammar.{BehindHead, Body, Closing, Extras, IsLoopId, IsStart, Items, Loop, LoopEnd, One, Record, References, Shape, Shared}
-use Rattle.segments.specs.declared.kind.Form.{Form}
-use Rattle.segments.specs.declared.kind.Form.TheVariants as forms
-use Rattle.segments.specs.declared.kind.Kind.{Kind}
-use Rattle.segments.specs.declared.kind.Kind.TheVariants as kinds
+use Rattle.segments.specs.Elements.{kept_text}
+use Rattle.transaction_set.specs.Grammar.{BehindHead, Body, Closing, Extras, IsLoopId, IsStart, Items, Loop, LoopEnd, One, Record, References, Shape, Shared}
+use Rattle.transaction_set.specs.declared.kind.Form.{Form}
+use Rattle.transaction_set.specs.declared.kind.Form.TheVariants as forms
+use Rattle.transaction_set.specs.declared.kind.Kind.{Kind}
+use Rattle.transaction_set.specs.declared.kind.Kind.TheVariants as kinds
 use Rattle.dsd_record.specs.SetTexts.{IsSet}
 use Rattle.dsd_record.specs.declared.set_view.SetView.{SetView}
 use Rattle.dsd_record.specs.declared.set_view.SetView.TheVariants as sets

@@ -1,6 +1,6 @@
 -- The turns of a clean session are own turns of two ends at their desks, up to two in a row in which nothing is due.
 use Rattle.std.proofs.Common.{◌≡◌, ◌≤◌, ℕ, Bool, true, false, not, ◌&&◌, length, map, List, [], ◌∷◌, refl, sym, ap, subst, ◌∙◌, arith}
-use Rattle.segments.specs.declared.texts.TheConstants.{MOST_CONTROL_NUMBER}
+use Rattle.segments.specs.declared.segment_writer.TheConstants.{MOST_CONTROL_NUMBER}
 use Rattle.dsd_record.specs.Choices.{Chooser}
 use Rattle.dsd_journal.specs.declared.header.Header.{Header}
 use Rattle.dex_handshake.specs.LineTable.{Common}

@@ -5,7 +5,7 @@ use Rattle.std.proofs.lemmas.Bool.Decides.{nat_tests}
 use Rattle.std.proofs.lemmas.Fmt.{length-decimal-le}
 use Rattle.dsd_values.specs.Writing.{number_text}
 use Rattle.dsd_values.specs.declared.role.Role.{Role}
-use Rattle.segments.specs.declared.texts.TheConstants.{MOST_CONTROL_NUMBER}
+use Rattle.segments.specs.declared.segment_writer.TheConstants.{MOST_CONTROL_NUMBER}
 use Rattle.base_record_894.specs.BaseRecord.{BaseRecord}
 use Rattle.dsd_record.specs.Choices.{Chooser}
 use Rattle.dsd_record.specs.ReadSets.{set_in}

@@ -7,7 +7,7 @@ use Rattle.dsd_values.specs.declared.level.TheConstants.Level.{MAX as HIGHEST}
 use Rattle.dsd_values.specs.Reading.{level_of}
 use Rattle.dsd_values.proofs.Laws.{number_spelled}
 use Rattle.segments.specs.Views.{Seg, element_of}
-use Rattle.segments.specs.declared.seal.Seal.{Seal}
+use Rattle.transaction_set.specs.declared.seal.Seal.{Seal}
 use Rattle.adjustment_895.specs.AnswerRecord.{AnswerRecord}
 use Rattle.adjustment_895.specs.AnswerText.{Is895}
 use Rattle.adjustment_895.specs.Grammar.{AreSegments, IsHead}

@@ -7,7 +7,7 @@ use Rattle.std.proofs.lemmas.Bool.{cases_Bool}
 use Rattle.std.proofs.lemmas.Slice.Eq.{bytes_eq-Decides}
 use Rattle.dsd_values.specs.declared.role.Role.{Role}
 use Rattle.dsd_values.specs.declared.role.Role.TheVariants.{Receiver, Supplier}
-use Rattle.segments.specs.declared.seal.Seal.{Seal}
+use Rattle.transaction_set.specs.declared.seal.Seal.{Seal}
 use Rattle.base_record_894.specs.BaseRecord.{BaseRecord, amount_of}
 use Rattle.base_record_894.specs.RecordText.{IsBase}
 use Rattle.base_record_894.specs.WrittenText.{seal_of, written_of}

@@ -17,10 +17,10 @@ use Rattle.dsd_pricing.specs.declared.amounts.Totals.{Totals}
 use Rattle.dsd_pricing.specs.declared.fault.PriceFault.{PriceFault}
 use Rattle.dsd_pricing.specs.declared.fault.WriteFault.{WriteFault}
 use Rattle.dsd_pricing.proofs.WholeTexts.{whole_is}
-use Rattle.segments.specs.RowsWritten.{first_long}
+use Rattle.transaction_set.specs.RowsWritten.{first_long}
 use Rattle.segments.specs.SegmentWriting.{in_front, line_of, text_of, without_empty_end}
-use Rattle.segments.specs.SetWriting.{kept_row, parted, sealing_rows, start_row}
-use Rattle.segments.specs.declared.kind.Form.TheVariants as forms
+use Rattle.transaction_set.specs.SetWriting.{kept_row, parted, sealing_rows, start_row}
+use Rattle.transaction_set.specs.declared.kind.Form.TheVariants as forms
 use Rattle.base_record_894.specs.BaseRecord.{BaseRecord}
 use Rattle.base_record_894.specs.WrittenText.{after_price, head_row as base_head_row, later_rows as base_later, opened_rows as base_opened, rows_of as base_rows, written_of as base_written}
 use Rattle.adjustment_895.specs.AnswerRecord.{AnswerRecord}

@@ -3,7 +3,7 @@ use Rattle.std.proofs.Common.{◌≡◌, ◌⊎◌, ◌≤◌, ℕ, zero, suc, B
 use Rattle.std.proofs.lemmas.Bool.{eqb-true}
 use Rattle.dsd_values.specs.declared.role.Role.{Role}
 use Rattle.dsd_values.specs.declared.role.Role.TheVariants.{Supplier, Receiver}
-use Rattle.segments.specs.declared.seal.Seal.{Seal}
+use Rattle.transaction_set.specs.declared.seal.Seal.{Seal}
 use Rattle.adjustment_895.specs.AnswerRecord.{AnswerRecord}
 use Rattle.dsd_record.specs.Chain.{Chain, version_of, with_adjusted}
 use Rattle.dsd_record.specs.Version.{Version}

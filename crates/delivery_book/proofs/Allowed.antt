@@ -9,15 +9,15 @@ use Rattle.dsd_values.specs.declared.role.Role.TheVariants.{Supplier, Receiver}
 use Rattle.dsd_values.proofs.Laws.{number_spelled}
 use Rattle.dsd_pricing.specs.declared.fault.WriteFault.{WriteFault}
 use Rattle.segments.specs.Views.{Seg, element_of}
-use Rattle.segments.specs.declared.seal.Seal.{Seal}
+use Rattle.transaction_set.specs.declared.seal.Seal.{Seal}
 use Rattle.base_record_894.specs.BaseRecord.{BaseRecord}
 use Rattle.adjustment_895.specs.AnswerRecord.{AnswerRecord}
 use Rattle.adjustment_895.specs.Grammar.{AreSegments}
 use Rattle.dsd_record.specs.Applying.{Applies, apply_fault}
 use Rattle.dsd_record.specs.Naming.{Names}
-use Rattle.segments.specs.Refusal.{Answers, Refusal}
-use Rattle.segments.specs.declared.set_fault.SetFault.{SetFault}
-use Rattle.segments.specs.declared.set_fault.SetFault.TheVariants as setfaults
+use Rattle.transaction_set.specs.Refusal.{Answers, Refusal}
+use Rattle.transaction_set.specs.declared.set_fault.SetFault.{SetFault}
+use Rattle.transaction_set.specs.declared.set_fault.SetFault.TheVariants as setfaults
 use Rattle.dsd_record.specs.SetTexts.{IsSet, set_refusal}
 use Rattle.dsd_record.specs.Version.{Version}
 use Rattle.dsd_record.specs.declared.fault.ApplyFault.{ApplyFault}

@@ -5,7 +5,7 @@ use Rattle.std.specs.Map.{keys_of, lookup}
 use Rattle.std.proofs.lemmas.List.Quantifiers.{position-Some}
 use Rattle.indexmap.specs.IndexMap.{insert_entry}
 use Rattle.indexmap.specs.IndexSet.{insert_key}
-use Rattle.segments.proofs.Small.{bytes_are}
+use Rattle.transaction_set.proofs.Small.{bytes_are}
 use Rattle.adjustment_895.specs.AnswerRecord.{AnswerRecord}
 use Rattle.dsd_record.specs.Applying.{applied, apply_fault}
 use Rattle.dsd_record.specs.Version.{Version}

@@ -6,7 +6,7 @@ use Rattle.dsd_pricing.specs.Pricing.{quantities, totals_of}
 use Rattle.dsd_pricing.specs.declared.amounts.Totals.{Totals}
 use Rattle.dsd_pricing.specs.declared.fault.PriceFault.{PriceFault}
 use Rattle.dsd_values.specs.declared.role.Role.{Role}
-use Rattle.segments.specs.declared.seal.Seal.{Seal}
+use Rattle.transaction_set.specs.declared.seal.Seal.{Seal}
 use Rattle.base_record_894.specs.BaseRecord.{BaseRecord}
 use Rattle.base_record_894.specs.RecordText.{Is894}
 use Rattle.adjustment_895.specs.AnswerRecord.{AnswerRecord}

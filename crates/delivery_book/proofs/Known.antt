@@ -3,7 +3,7 @@ use Rattle.std.proofs.Common.{◌≡◌, ◌⊎◌, ℕ, Bool, true, false, not,
 use Rattle.std.specs.List.{list_any}
 use Rattle.std.proofs.lemmas.Slice.Eq.{bytes_eq-Decides}
 use Rattle.dsd_values.specs.declared.role.Role.{Role}
-use Rattle.segments.specs.Refusal.{Refusal}
+use Rattle.transaction_set.specs.Refusal.{Refusal}
 use Rattle.dsd_record.specs.ReadSets.{set_in}
 use Rattle.dsd_record.specs.SetTexts.{IsSet}
 use Rattle.dsd_record.specs.declared.set_view.SetView.{SetView}

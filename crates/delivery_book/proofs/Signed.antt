@@ -18,7 +18,7 @@ use Rattle.dsd_record.proofs.Answered.{small_priced}
 use Rattle.dsd_pricing.specs.Pricing.{totals_of}
 use Rattle.dsd_values.specs.declared.limits.TheConstants.{MOST_LINES}
 use Rattle.dsd_values.specs.declared.quantity.TheConstants.{MOST_TOTAL_QUANTITY}
-use Rattle.segments.specs.SoundLines.{IsSoundLine}
+use Rattle.transaction_set.specs.SoundLines.{IsSoundLine}
 use Rattle.std.proofs.lemmas.List.Elements.{All-nil}
 use Rattle.dsd_record.specs.declared.price_after.ChangeFault.{ChangeFault}
 use Rattle.dsd_record.specs.declared.price_after.ChangeFault.TheVariants as changing

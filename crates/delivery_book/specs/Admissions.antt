@@ -10,8 +10,8 @@ use Rattle.dsd_journal.specs.declared.entry.EntryKind.{EntryKind}
 use Rattle.dsd_journal.specs.declared.entry.EntryKind.TheVariants.{Signed, Took}
 use Rattle.dsd_record.specs.declared.fault.ApplyFault.{ApplyFault}
 use Rattle.dsd_record.specs.declared.fault.ApplyFault.TheVariants.{Memory as NoMemory}
-use Rattle.segments.specs.declared.set_fault.SetFault.{SetFault}
-use Rattle.segments.specs.declared.set_fault.SetFault.TheVariants.{Memory as NoRoom}
+use Rattle.transaction_set.specs.declared.set_fault.SetFault.{SetFault}
+use Rattle.transaction_set.specs.declared.set_fault.SetFault.TheVariants.{Memory as NoRoom}
 use Rattle.delivery_book.specs.Changes.{is_form}
 use Rattle.delivery_book.specs.Deeds.{signer}
 use Rattle.delivery_book.specs.Index.{Stand}

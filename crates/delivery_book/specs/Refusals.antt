@@ -9,8 +9,8 @@ use Rattle.dsd_values.specs.declared.role.Role.TheVariants.{Supplier, Receiver}
 use Rattle.dsd_pricing.specs.declared.amounts.Totals.{Totals}
 use Rattle.dsd_pricing.specs.declared.fault.WriteFault.{WriteFault}
 use Rattle.dsd_pricing.specs.declared.fault.WriteFault.TheVariants.{Price as Unpriced}
-use Rattle.segments.specs.Refusal.{Refusal}
-use Rattle.segments.specs.declared.set_fault.SetFault.TheVariants.{Refused}
+use Rattle.transaction_set.specs.Refusal.{Refusal}
+use Rattle.transaction_set.specs.declared.set_fault.SetFault.TheVariants.{Refused}
 use Rattle.base_record_894.specs.BaseRecord.{BaseRecord}
 use Rattle.base_record_894.specs.WrittenText.{written_of as base_written}
 use Rattle.adjustment_895.specs.AnswerRecord.{AnswerRecord}

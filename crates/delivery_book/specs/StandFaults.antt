@@ -4,8 +4,8 @@ use Rattle.std.specs.List.{find}
 use Rattle.dsd_values.specs.declared.level.TheConstants.Level.{MAX as HIGHEST}
 use Rattle.dsd_values.specs.declared.role.Role.{Role}
 use Rattle.dsd_values.specs.declared.role.Role.TheVariants.{Receiver, Supplier}
-use Rattle.segments.specs.declared.set_fault.SetFault.{SetFault}
-use Rattle.segments.specs.declared.set_fault.SetFault.TheVariants.{Memory as NoRoom}
+use Rattle.transaction_set.specs.declared.set_fault.SetFault.{SetFault}
+use Rattle.transaction_set.specs.declared.set_fault.SetFault.TheVariants.{Memory as NoRoom}
 use Rattle.adjustment_895.specs.AnswerRecord.{AnswerRecord}
 use Rattle.dsd_record.specs.Applying.{apply_fault}
 use Rattle.dsd_record.specs.declared.fault.ApplyFault.{ApplyFault}

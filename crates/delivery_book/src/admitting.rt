@@ -2,7 +2,7 @@
 
 ghost use Rattle.std.specs.Prelude.{◌≡◌, ◌+◌, ◌≤◌, IfOk, length};
 ghost use Rattle.std.specs.Option.{option_copied};
-ghost use Rattle.segments.specs.declared.texts.TheConstants.{MOST_CONTROL_NUMBER as MOST_CONTROL};
+ghost use Rattle.transaction_set.specs.declared.texts.TheConstants.{MOST_CONTROL_NUMBER as MOST_CONTROL};
 ghost use Rattle.dsd_record.specs.declared.set_view.SetView.{SetView as Set};
 ghost use Rattle.dsd_record.specs.Applying.{applied as behind};
 ghost use Rattle.delivery_book.specs.Admissions.{Decides, as_no_set, as_unapplied, is_admitted, is_allowed, is_answer_allowed, is_base_allowed, is_stand_answered, is_turn as is_turn_of};
@@ -24,7 +24,8 @@ use dsd_journal::{Entry, EntryKind};
 use dsd_pricing::WriteFault;
 use dsd_record::{ApplyFault, DsdRecord, SetView, set_of};
 use dsd_values::{Check, Memory, Role};
-use segments::{MOST_CONTROL_NUMBER, SetFault};
+use segments::MOST_CONTROL_NUMBER;
+use transaction_set::SetFault;
 use std::alloc::Global;
 
 /// What an entry adds, where it may stand behind these; so many of them were signed.

@@ -7,7 +7,7 @@ use crate::fault::RuleFault;
 use dsd_pricing::WriteFault;
 use dsd_record::ApplyFault;
 use dsd_values::{Check, Level};
-use segments::SetFault;
+use transaction_set::SetFault;
 use thiserror::Error;
 
 /// Why a set is neither signed nor taken. But for `Station` nothing has changed.

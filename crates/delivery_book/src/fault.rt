@@ -7,7 +7,7 @@ ghost use Rattle.delivery_book.specs.declared.fault.RuleFault.TheVariants as rul
 use dsd_pricing::WriteFault;
 use dsd_record::ApplyFault;
 use dsd_values::{Check, Level, Memory};
-use segments::SetFault;
+use transaction_set::SetFault;
 use thiserror::Error;
 
 /// Why an entry is not one of these rules. Nothing has changed.

@@ -19,7 +19,7 @@ use crate::judging::judge;
 use dsd_journal::{Entry, EntryKind};
 use dsd_record::{DsdRecord, SetView, set_of};
 use dsd_values::Role;
-use segments::SetFault;
+use transaction_set::SetFault;
 use std::alloc::Global;
 
 /// What a text adds that this end takes, or why it does not take it.

@@ -7,7 +7,7 @@ use Rattle.dsd_record.specs.declared.set_view.SetView.{SetView}
 use Rattle.dsd_record.specs.declared.set_view.SetView.TheVariants as sets
 use Rattle.dxs_envelope.specs.Views.{SetAt, Told}
 use Rattle.dxs_envelope.specs.declared.fault.EnvelopeFault.{EnvelopeFault}
-use Rattle.segments.specs.declared.set_fault.SetReason.{SetReason}
+use Rattle.transaction_set.specs.declared.set_fault.SetReason.{SetReason}
 use Rattle.dex_cli.specs.declared.refusal.Reason.{Reason}
 use Rattle.dex_cli.specs.declared.refusal.Reason.TheVariants as reasons
 use Rattle.dex_cli.specs.declared.refusal.Refusal.{Refusal}

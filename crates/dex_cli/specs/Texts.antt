@@ -13,8 +13,8 @@ use Rattle.dex_line.specs.Captured.{frames_in, is_refused}
 use Rattle.dex_line.specs.FrameShapes.{FrameShape, Enq, Ack0, Ack1, Nak, Eot, Header, Block, Damaged, Bad}
 use Rattle.segments.specs.declared.segment_fault.SegmentFault.{SegmentFault}
 use Rattle.segments.specs.declared.segment_fault.SegmentFault.TheVariants as segment_faults
-use Rattle.segments.specs.declared.set_fault.SetReason.{SetReason}
-use Rattle.segments.specs.declared.set_fault.SetReason.TheVariants as set_reasons
+use Rattle.transaction_set.specs.declared.set_fault.SetReason.{SetReason}
+use Rattle.transaction_set.specs.declared.set_fault.SetReason.TheVariants as set_reasons
 use Rattle.dxs_envelope.specs.declared.fault.EnvelopeReason.{EnvelopeReason}
 use Rattle.dxs_envelope.specs.declared.fault.EnvelopeReason.TheVariants as envelope_reasons
 use Rattle.dsd_record.specs.declared.draft_fault.DraftReason.{DraftReason}

@@ -4,7 +4,7 @@ use Rattle.std.specs.Io.KnownBytes.{Consumes, IsAtEnd}
 use Rattle.std.specs.List.{list_any}
 use Rattle.dsd_station.specs.Causes.{Rose, TakesUpTo}
 use Rattle.dex_line.specs.Captured.{frames_in, is_refused}
-use Rattle.segments.specs.declared.set_fault.SetReason.TheVariants as set_reasons
+use Rattle.transaction_set.specs.declared.set_fault.SetReason.TheVariants as set_reasons
 use Rattle.dxs_envelope.specs.FirstFault.{told_of}
 use Rattle.dsd_values.specs.declared.role.Role.{Role}
 use Rattle.dsd_values.specs.declared.role.Role.TheVariants.{Supplier, Receiver}

@@ -8,7 +8,7 @@ use crate::refusal::{Reason, Refusal};
 use crate::summary::summary_of;
 use crate::verdict::Verdict;
 use dsd_record::set_of;
-use segments::SetFault;
+use transaction_set::SetFault;
 use std::alloc::{AllocError, Global};
 
 /// The verdict on an input.

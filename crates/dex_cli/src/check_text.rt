@@ -13,7 +13,7 @@ use crate::text_summary::{TextEnding, TextSummary};
 use crate::verdict::Verdict;
 use dsd_record::set_of;
 use dxs_envelope::{SetSlice, Sets};
-use segments::SetFault;
+use transaction_set::SetFault;
 use std::alloc::{AllocError, Global};
 
 /// The verdict on an input.

@@ -12,7 +12,7 @@ use dsd_journal::EntryKind;
 use dsd_record::SetView;
 use dsd_values::{Check, DeliveryNumber, Level, Word, write_check};
 use end_report::{put, put_bytes, put_named, put_number, put_pair};
-use segments::Seal;
+use transaction_set::Seal;
 use std::alloc::{AllocError, Global};
 
 /// What is printed of an entry of a journal.

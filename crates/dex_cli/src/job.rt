@@ -33,7 +33,7 @@ use crate::words::{CheckKind, Job, read_words};
 use cable_world::World;
 use dsd_station::{ReadFault, Sink, Source, Station, read_up_to, write_all};
 use dsd_values::Role;
-use segments::SetReason;
+use transaction_set::SetReason;
 use std::alloc::{AllocError, Global};
 
 /// The most bytes of an input.

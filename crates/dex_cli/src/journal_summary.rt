@@ -12,7 +12,7 @@ use dsd_journal::{Header, Journal};
 use dsd_record::set_of;
 use dsd_values::Role;
 use end_report::{put, put_bytes, put_count};
-use segments::SetFault;
+use transaction_set::SetFault;
 use std::alloc::{AllocError, Global};
 
 /// What is printed of a journal.

@@ -8,7 +8,8 @@ ghost use Rattle.end_report.specs.Lines.{both};
 use dsd_record::DraftReason;
 use dsd_values::{ValueFault, write_check};
 use end_report::{put, put_bytes, put_named, put_number, put_signed};
-use segments::{SegmentFault, SetReason};
+use segments::SegmentFault;
+use transaction_set::SetReason;
 use std::alloc::{AllocError, Global};
 
 /// The printed text of a fault of a segment.

@@ -7,7 +7,7 @@ use crate::reasons::{put_counts, put_draft_reason, put_set_reason, segment_fault
 use dsd_record::DraftReason;
 use dxs_envelope::EnvelopeReason;
 use end_report::{put, put_number};
-use segments::SetReason;
+use transaction_set::SetReason;
 use std::alloc::{AllocError, Global};
 
 /// Where and why an input is refused.

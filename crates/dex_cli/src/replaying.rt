@@ -17,7 +17,7 @@ use cable_world::{Script, World, WorldReport, open_world};
 use clean_worlds::clean_endings_settle;
 use dsd_record::DraftFault;
 use dsd_station::{ReadFault, Source, read_up_to};
-use segments::SetReason;
+use transaction_set::SetReason;
 use std::alloc::{AllocError, Global};
 
 /// Reads a script to the end of the source, and plays it. The world that played it is left to the caller; where the script is refused, or memory is

@@ -6,14 +6,14 @@ use Rattle.std.specs.List.{concat}
 use Rattle.std.proofs.lemmas.List.Elements.{All-head, All-tail}
 use Rattle.std.proofs.lemmas.List.Folds.{concat-append}
 use Rattle.dsd_values.specs.Reading.{check_of, filled_word_of}
-use Rattle.segments.specs.Kinds.{has_id}
+use Rattle.segments.specs.Views.{has_id}
 use Rattle.segments.specs.SegmentCut.{Cut, cut_of}
 use Rattle.segments.specs.SegmentSpelling.{SpellsSegment, SpellsSegments}
 use Rattle.segments.specs.Views.{Seg, element_of}
-use Rattle.segments.specs.declared.kind.Form.TheVariants as forms
-use Rattle.segments.specs.declared.seal.Seal.{Seal}
+use Rattle.transaction_set.specs.declared.kind.Form.TheVariants as forms
+use Rattle.transaction_set.specs.declared.seal.Seal.{Seal}
 use Rattle.segments.proofs.Cutting.{cut_of-spelled}
-use Rattle.segments.proofs.Small.{bytes_are}
+use Rattle.transaction_set.proofs.Small.{bytes_are}
 use Rattle.base_record_894.specs.Grammar.{IsHead as IsBaseHead, shared_of as base_shared}
 use Rattle.adjustment_895.specs.Grammar.{IsHead as IsAnswerHead, notes, shared_of as answer_shared}
 use Rattle.dex_line.specs.TextUnits.{is_set_end, is_trailer, lines_of}

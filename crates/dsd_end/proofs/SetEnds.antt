@@ -7,18 +7,20 @@ use Rattle.dsd_values.specs.Reading.{check_of, filled_word_of}
 use Rattle.dsd_values.specs.declared.extra.Extra.{Extra}
 use Rattle.dsd_values.specs.declared.extra.Extra.TheVariants.{Allow, Note}
 use Rattle.dsd_values.specs.declared.line.Line.{Line}
-use Rattle.segments.specs.Extras.{is_note, kept_text}
-use Rattle.segments.specs.Grammar.{BehindHead, Body, Closing, Extras, Integrity, IsItem, IsLoopId, IsSignature, IsStart, IsTotals, Items, Loop, LoopEnd, One, OneExtra, Record, References, Shape, Shared, Signed}
-use Rattle.segments.specs.Kinds.{has_id, kind_of}
+use Rattle.transaction_set.specs.Extras.{is_note}
+use Rattle.segments.specs.Elements.{kept_text}
+use Rattle.transaction_set.specs.Grammar.{BehindHead, Body, Closing, Extras, Integrity, IsItem, IsLoopId, IsSignature, IsStart, IsTotals, Items, Loop, LoopEnd, One, OneExtra, Record, References, Shape, Shared, Signed}
+use Rattle.transaction_set.specs.Kinds.{kind_of}
+use Rattle.segments.specs.Views.{has_id}
 use Rattle.segments.specs.Views.{Seg, element_of}
-use Rattle.segments.specs.declared.kind.Form.{Form}
-use Rattle.segments.specs.declared.kind.Form.TheVariants as forms
-use Rattle.segments.specs.declared.kind.Kind.{Kind}
-use Rattle.segments.specs.declared.kind.Kind.TheVariants as kinds
-use Rattle.segments.proofs.KindsById.{integrity_id, kind_by_id, trailer_id}
-use Rattle.segments.proofs.RowKinds.{integrity_kind}
-use Rattle.segments.proofs.SetRows.{FromStart}
-use Rattle.segments.proofs.Small.{bytes_are}
+use Rattle.transaction_set.specs.declared.kind.Form.{Form}
+use Rattle.transaction_set.specs.declared.kind.Form.TheVariants as forms
+use Rattle.transaction_set.specs.declared.kind.Kind.{Kind}
+use Rattle.transaction_set.specs.declared.kind.Kind.TheVariants as kinds
+use Rattle.transaction_set.proofs.KindsById.{integrity_id, kind_by_id, trailer_id}
+use Rattle.transaction_set.proofs.RowKinds.{integrity_kind}
+use Rattle.transaction_set.proofs.SetRows.{FromStart}
+use Rattle.transaction_set.proofs.Small.{bytes_are}
 
 abbrev pub IsNoIntegrity : Seg → Type 0
 IsNoIntegrity seg = has_id seg (codes "G85") ≡ false

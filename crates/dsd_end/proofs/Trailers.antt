@@ -5,7 +5,7 @@ use Rattle.std.specs.List.{concat}
 use Rattle.std.proofs.lemmas.List.Elements.{All-contains, All-map, All-weaker}
 use Rattle.segments.specs.SegmentSpelling.{SpellsSegments}
 use Rattle.segments.specs.Views.{Seg}
-use Rattle.segments.specs.declared.seal.Seal.{Seal}
+use Rattle.transaction_set.specs.declared.seal.Seal.{Seal}
 use Rattle.dex_line.specs.TextUnits.{is_trailer, lines_of}
 use Rattle.dex_line.proofs.Fewest.{blocks_joined}
 use Rattle.dsd_record.specs.SetTexts.{IsSet}

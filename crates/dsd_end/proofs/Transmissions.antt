@@ -6,7 +6,7 @@ use Rattle.std.specs.Str.{bytes_eq}
 use Rattle.std.specs.List.{concat}
 use Rattle.std.proofs.lemmas.List.Elements.{All-cons, All-push, All-weaker}
 use Rattle.std.proofs.lemmas.List.Folds.{concat-append}
-use Rattle.segments.specs.Kinds.{has_id}
+use Rattle.segments.specs.Views.{has_id}
 use Rattle.segments.specs.SegmentWriting.{IsLine as IsWrittenLine, line_of, segment_of}
 use Rattle.segments.proofs.EmptyEnds.{trim_element}
 use Rattle.segments.proofs.Written.{segment_spelled}

@@ -1,7 +1,7 @@
 -- How a set is sealed, and where the seal of a set comes from that is put together from blocks.
 use Rattle.std.specs.Prelude.{◌≡◌, ℕ, Bool, true, List, ◌++◌, All}
 use Rattle.std.specs.List.{Contains}
-use Rattle.segments.specs.declared.seal.Seal.{Seal}
+use Rattle.transaction_set.specs.declared.seal.Seal.{Seal}
 use Rattle.dex_line.specs.TextUnits.{is_set_end, is_trailer}
 use Rattle.dsd_record.specs.SetTexts.{IsSet}
 use Rattle.dsd_record.specs.declared.set_view.SetView.{SetView}

@@ -11,11 +11,11 @@ use Rattle.dsd_values.specs.Answers.{UnlessMemory}
 use Rattle.dsd_values.specs.declared.extra.Extra.{Extra}
 use Rattle.dsd_values.specs.declared.limits.TheConstants.{MOST_LINES}
 use Rattle.dsd_values.specs.declared.line.Line.{Line}
-use Rattle.segments.specs.Extras.{HasExtras}
-use Rattle.segments.proofs.Small.{at_most}
+use Rattle.transaction_set.specs.Extras.{HasExtras}
+use Rattle.transaction_set.proofs.Small.{at_most}
 use Rattle.dsd_record.specs.ChangedPrice.{IsPriceAfter, IsRefused, as_change, price_with, totals_within}
 use Rattle.dsd_record.specs.LineChanges.{changed}
-use Rattle.segments.specs.SoundLines.{AreSoundLines, IsSoundLine}
+use Rattle.transaction_set.specs.SoundLines.{AreSoundLines, IsSoundLine}
 use Rattle.dsd_record.specs.Version.{IsVersion, Version}
 use Rattle.dsd_record.specs.declared.price_after.ChangeFault.{ChangeFault}
 use Rattle.dsd_record.specs.declared.price_after.ChangeFault.TheVariants.{Limit, Memory, Price}

@@ -13,7 +13,7 @@ use Rattle.dsd_values.specs.declared.limits.TheConstants.{MOST_LINES}
 use Rattle.dsd_values.specs.declared.line.Line.{Line}
 use Rattle.dsd_values.specs.declared.quantity.TheConstants.{MOST_TOTAL_QUANTITY}
 use Rattle.dsd_values.specs.declared.quantity.TheConstants.Quantity.{MAX as MOST_QUANTITY}
-use Rattle.segments.specs.SoundLines.{AreSoundLines, IsSoundLine}
+use Rattle.transaction_set.specs.SoundLines.{AreSoundLines, IsSoundLine}
 use Rattle.segments.specs.Views.{element_of}
 use Rattle.adjustment_895.specs.AnswerText.{IsAnswer}
 use Rattle.adjustment_895.specs.Grammar.{IsLevelled}

@@ -9,10 +9,10 @@ use Rattle.std.specs.Option.{is_some, option_copied}
 use Rattle.std.specs.Map.{lookup}
 use Rattle.indexmap.specs.IndexMap.{insert_entry}
 use Rattle.dsd_values.specs.declared.line.Line.{Line}
-use Rattle.segments.specs.Grammar.{AreApart}
-use Rattle.segments.specs.Reasons.{has_line}
-use Rattle.segments.proofs.Apart.{apart_at}
-use Rattle.segments.proofs.Small.{both_false, or_false, turned}
+use Rattle.transaction_set.specs.Grammar.{AreApart}
+use Rattle.transaction_set.specs.Reasons.{has_line}
+use Rattle.transaction_set.proofs.Apart.{apart_at}
+use Rattle.transaction_set.proofs.Small.{both_false, or_false, turned}
 use Rattle.dsd_record.specs.LineChanges.{changed, line_under, numbered, put}
 
 -- ---- as a map holds them

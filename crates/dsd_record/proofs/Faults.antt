@@ -10,7 +10,7 @@ use Rattle.dsd_values.specs.declared.flag.Flag.TheVariants.{Credit, Debit}
 use Rattle.dsd_values.specs.declared.limits.TheConstants.{MOST_LINES}
 use Rattle.dsd_values.specs.declared.line.Line.{Line}
 use Rattle.segments.specs.Elements.{◌or_else◌}
-use Rattle.segments.proofs.Small.{both_none, none_then}
+use Rattle.transaction_set.proofs.Small.{both_none, none_then}
 use Rattle.adjustment_895.specs.AnswerRecord.{AnswerRecord}
 use Rattle.dsd_record.specs.Applying.{Applies, Refuses, apply_fault, is_same_flag, lines_after, naming_fault, refused_by, rows_fault, unless}
 use Rattle.dsd_record.specs.LineChanges.{changed}

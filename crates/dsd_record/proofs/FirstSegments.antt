@@ -1,20 +1,21 @@
 -- How a text begins: its first segment, as it is read and as the grammar of a set has it.
 use Rattle.std.proofs.Common.{◌≡◌, ℕ, ◌+◌, length, true, false, List, ◌∷◌, codes, get_or, Option, Some, None, Result, Ok, Err, refl, sym, ◌∙◌, ap, arith}
 use Rattle.std.specs.Str.{bytes_eq}
-use Rattle.segments.specs.Kinds.{has_id, is_start_of, kind_of, set_code}
+use Rattle.transaction_set.specs.Kinds.{is_start_of, kind_of, set_code}
+use Rattle.segments.specs.Views.{has_id}
 use Rattle.segments.specs.SegmentCut.{left_after, next_of, text_start}
 use Rattle.segments.specs.SegmentSpelling.{IsFront, SpellsSegments}
 use Rattle.segments.specs.Views.{Left, Seg, element_of}
-use Rattle.segments.specs.declared.kind.Form.{Form}
-use Rattle.segments.specs.declared.kind.Form.TheVariants as forms
-use Rattle.segments.specs.declared.kind.Kind.TheVariants as kinds
+use Rattle.transaction_set.specs.declared.kind.Form.{Form}
+use Rattle.transaction_set.specs.declared.kind.Form.TheVariants as forms
+use Rattle.transaction_set.specs.declared.kind.Kind.TheVariants as kinds
 use Rattle.segments.specs.declared.segment_fault.SegmentFault.{SegmentFault}
 use Rattle.segments.proofs.Complete.{front_is}
-use Rattle.segments.proofs.Small.{bytes_are}
+use Rattle.transaction_set.proofs.Small.{bytes_are}
 use Rattle.segments.proofs.Spelled.{next_front}
-use Rattle.segments.proofs.Whole.{and_both}
+use Rattle.transaction_set.proofs.Whole.{and_both}
 use Rattle.dsd_record.specs.SetTexts.{BeginsAs, begins_as, starts}
-use Rattle.segments.proofs.KindsById.{start_of_kind}
+use Rattle.transaction_set.proofs.KindsById.{start_of_kind}
 
 -- ---- the start of a set
 

@@ -7,7 +7,7 @@ use Rattle.dsd_pricing.specs.declared.fault.PriceFault.TheVariants.{Negative, To
 use Rattle.dsd_values.specs.declared.cents.TheConstants.Cents.{MAX as MOST_CENTS}
 use Rattle.dsd_values.specs.declared.extra.Extra.{Extra}
 use Rattle.dsd_values.specs.declared.line.Line.{Line}
-use Rattle.segments.proofs.Small.{at_most}
+use Rattle.transaction_set.proofs.Small.{at_most}
 use Rattle.base_record_894.proofs.Amounts.{priced_totals, totals_priced}
 use Rattle.adjustment_895.specs.AnswerRecord.{AnswerRecord}
 use Rattle.dsd_record.specs.Applying.{Applies, lines_after, stated_by}

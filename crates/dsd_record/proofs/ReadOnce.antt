@@ -4,12 +4,12 @@ use Rattle.dsd_values.specs.SignatureRecord.{SignatureRecord}
 use Rattle.dsd_values.specs.declared.extra.Extra.{Extra}
 use Rattle.dsd_values.specs.declared.limits.TheConstants.{SET_BYTES}
 use Rattle.dsd_values.specs.declared.line.Line.{Line}
-use Rattle.segments.specs.Refusal.{Refusal, said_by}
+use Rattle.transaction_set.specs.Refusal.{Refusal, said_by}
 use Rattle.segments.specs.SegmentCut.{cut_of}
-use Rattle.segments.specs.SoFar.{SoFar}
-use Rattle.segments.specs.declared.kind.Form.TheVariants as forms
-use Rattle.segments.specs.declared.seal.Seal.{Seal}
-use Rattle.segments.specs.declared.stated.StatedTotals.{StatedTotals}
+use Rattle.transaction_set.specs.SoFar.{SoFar}
+use Rattle.transaction_set.specs.declared.kind.Form.TheVariants as forms
+use Rattle.transaction_set.specs.declared.seal.Seal.{Seal}
+use Rattle.transaction_set.specs.declared.stated.StatedTotals.{StatedTotals}
 use Rattle.base_record_894.specs.BaseRecord.{BaseRecord}
 use Rattle.base_record_894.specs.FirstRefusal.{judged as base_judged}
 use Rattle.base_record_894.specs.RecordText.{Is894}

@@ -1,23 +1,23 @@
 -- A text is at most one set, and what is none is refused at its front.
 use Rattle.std.proofs.Common.{◌≡◌, ℕ, Bool, true, false, List, [], ◌∷◌, if◌then◌else◌, Option, Some, None, Result, Err, inl, inr, refl, sym, ◌∙◌, ap, subst}
 use Rattle.std.proofs.lemmas.Bool.{cases_Bool}
-use Rattle.segments.specs.Kinds.{is_start_of, kind_of}
-use Rattle.segments.specs.Reasons.{admission}
-use Rattle.segments.specs.Refusal.{Answers, Refusal}
+use Rattle.transaction_set.specs.Kinds.{is_start_of, kind_of}
+use Rattle.transaction_set.specs.Reasons.{admission}
+use Rattle.transaction_set.specs.Refusal.{Answers, Refusal}
 use Rattle.segments.specs.SegmentCut.{cut_in, cut_left, next_of, text_start}
 use Rattle.segments.specs.SegmentRefusal.{IsFault}
 use Rattle.segments.specs.SegmentSpelling.{IsFront, SpellsSegments}
 use Rattle.segments.specs.Views.{Left, Seg}
-use Rattle.segments.specs.declared.kind.Form.TheVariants as forms
-use Rattle.segments.specs.declared.kind.Kind.{Kind}
-use Rattle.segments.specs.declared.kind.Kind.TheVariants as kinds
-use Rattle.segments.specs.declared.seal.Seal.{Seal}
+use Rattle.transaction_set.specs.declared.kind.Form.TheVariants as forms
+use Rattle.transaction_set.specs.declared.kind.Kind.{Kind}
+use Rattle.transaction_set.specs.declared.kind.Kind.TheVariants as kinds
+use Rattle.transaction_set.specs.declared.seal.Seal.{Seal}
 use Rattle.segments.specs.declared.segment_fault.SegmentFault.{SegmentFault}
-use Rattle.segments.specs.declared.set_fault.SetFault.{SetFault}
-use Rattle.segments.specs.declared.set_fault.SetFault.TheVariants as errors
-use Rattle.segments.specs.declared.set_fault.SetReason.TheVariants as reasons
+use Rattle.transaction_set.specs.declared.set_fault.SetFault.{SetFault}
+use Rattle.transaction_set.specs.declared.set_fault.SetFault.TheVariants as errors
+use Rattle.transaction_set.specs.declared.set_fault.SetReason.TheVariants as reasons
 use Rattle.segments.proofs.Complete.{front_is}
-use Rattle.segments.proofs.Reading.{fault_refused, step_refused}
+use Rattle.transaction_set.proofs.Reading.{fault_refused, step_refused}
 use Rattle.segments.proofs.Refused.{next_of-fault}
 use Rattle.base_record_894.specs.BaseRecord.{BaseRecord}
 use Rattle.base_record_894.specs.FirstRefusal.{judged as base_judged, refusal_of as base_refusal}

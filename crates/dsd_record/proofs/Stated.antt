@@ -4,12 +4,12 @@ use Rattle.dsd_values.specs.declared.cents.TheConstants.Cents.{MAX as MOST_CENTS
 use Rattle.dsd_values.specs.declared.extra.Extra.{Extra}
 use Rattle.dsd_values.specs.declared.line.Line.{Line}
 use Rattle.segments.specs.Views.{Seg, element_of}
-use Rattle.segments.specs.Extras.{kept_text}
-use Rattle.segments.specs.Grammar.{BehindHead, Body, Closing, Extras, IsLoopId, IsStart, Items, Loop, LoopEnd, One, References, Shape, Shared}
-use Rattle.segments.specs.declared.kind.Form.{Form}
-use Rattle.segments.specs.declared.kind.Form.TheVariants as forms
-use Rattle.segments.specs.declared.kind.Kind.{Kind}
-use Rattle.segments.specs.declared.kind.Kind.TheVariants as kinds
+use Rattle.segments.specs.Elements.{kept_text}
+use Rattle.transaction_set.specs.Grammar.{BehindHead, Body, Closing, Extras, IsLoopId, IsStart, Items, Loop, LoopEnd, One, References, Shape, Shared}
+use Rattle.transaction_set.specs.declared.kind.Form.{Form}
+use Rattle.transaction_set.specs.declared.kind.Form.TheVariants as forms
+use Rattle.transaction_set.specs.declared.kind.Kind.{Kind}
+use Rattle.transaction_set.specs.declared.kind.Kind.TheVariants as kinds
 use Rattle.base_record_894.proofs.Amounts.{cents_low}
 use Rattle.adjustment_895.specs.AnswerRecord.{AnswerRecord}
 use Rattle.adjustment_895.specs.AnswerText.{IsAnswer}

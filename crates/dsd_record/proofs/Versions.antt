@@ -12,7 +12,7 @@ use Rattle.dsd_values.specs.declared.extra.Extra.{Extra}
 use Rattle.dsd_values.specs.declared.flag.Flag.{Flag}
 use Rattle.dsd_values.specs.declared.limits.TheConstants.{MOST_LINES}
 use Rattle.dsd_values.specs.declared.line.Line.{Line}
-use Rattle.segments.specs.Extras.{HasExtras}
+use Rattle.transaction_set.specs.Extras.{HasExtras}
 use Rattle.base_record_894.specs.BaseRecord.{BaseRecord}
 use Rattle.base_record_894.specs.RecordText.{IsBase}
 use Rattle.base_record_894.proofs.Amounts.{totals_priced}
@@ -24,7 +24,7 @@ use Rattle.adjustment_895.proofs.Made.{answer_lines}
 use Rattle.dsd_record.specs.Applying.{Applies, adjusted, lines_after, rows_fault, totals_fault}
 use Rattle.dsd_record.specs.Chain.{chain_from, version_of, version_with}
 use Rattle.dsd_record.specs.LineChanges.{changed}
-use Rattle.segments.specs.SoundLines.{IsSoundLine}
+use Rattle.transaction_set.specs.SoundLines.{IsSoundLine}
 use Rattle.dsd_record.specs.Version.{IsVersion, Version}
 use Rattle.dsd_record.specs.declared.fault.ApplyFault.TheVariants.{Limit}
 use Rattle.dsd_record.proofs.Changed.{all_changed, apart_changed}

@@ -3,7 +3,7 @@ use Rattle.std.specs.Prelude.{◌≡◌, ◌<◌, ℕ, Bool, false, List, [], �
 use Rattle.std.specs.List.{list_any}
 use Rattle.dsd_values.specs.SignatureRecord.{SignatureRecord}
 use Rattle.base_record_894.specs.BaseRecord.{BaseRecord}
-use Rattle.segments.specs.SoundLines.{AreSoundLines}
+use Rattle.transaction_set.specs.SoundLines.{AreSoundLines}
 use Rattle.dsd_record.specs.Version.{Version}
 use Rattle.dsd_record.specs.declared.choice.Choice.{Choice}
 use Rattle.dsd_record.specs.declared.choice.Choice.TheVariants as choices

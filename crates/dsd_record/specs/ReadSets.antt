@@ -1,11 +1,11 @@
 -- The set that a text is, as a function: what its segments say, where it has no refusal. `IsSet` is what it means.
 use Rattle.std.specs.Prelude.{ℕ, if◌then◌else◌, List, Option, Some, None}
 use Rattle.dsd_values.specs.SignatureRecord.{SignatureRecord}
-use Rattle.segments.specs.Refusal.{Refusal, said_by}
+use Rattle.transaction_set.specs.Refusal.{Refusal, said_by}
 use Rattle.segments.specs.SegmentCut.{cut_of}
-use Rattle.segments.specs.SoFar.{SoFar}
-use Rattle.segments.specs.declared.kind.Form.TheVariants as forms
-use Rattle.segments.specs.declared.seal.Seal.{Seal}
+use Rattle.transaction_set.specs.SoFar.{SoFar}
+use Rattle.transaction_set.specs.declared.kind.Form.TheVariants as forms
+use Rattle.transaction_set.specs.declared.seal.Seal.{Seal}
 use Rattle.base_record_894.specs.BaseRecord.{BaseRecord}
 use Rattle.base_record_894.specs.FirstRefusal.{judged as base_judged}
 use Rattle.base_record_894.specs.Said.{Said as SaidBase, nothing as no_base}

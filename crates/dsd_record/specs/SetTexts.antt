@@ -1,12 +1,12 @@
 -- Which texts are a set, of which form and value; and the first refusal of a text that is none.
 use Rattle.std.specs.Prelude.{◌≡◌, ℕ, Bool, true, false, if◌then◌else◌, List, Option, Some, None, Result, Ok, Err}
-use Rattle.segments.specs.Kinds.{is_start_of}
-use Rattle.segments.specs.Refusal.{Refusal}
+use Rattle.transaction_set.specs.Kinds.{is_start_of}
+use Rattle.transaction_set.specs.Refusal.{Refusal}
 use Rattle.segments.specs.SegmentCut.{next_of, text_start}
 use Rattle.segments.specs.SegmentSpelling.{IsFront}
 use Rattle.segments.specs.Views.{Left, Seg}
-use Rattle.segments.specs.declared.kind.Form.{Form}
-use Rattle.segments.specs.declared.kind.Form.TheVariants as forms
+use Rattle.transaction_set.specs.declared.kind.Form.{Form}
+use Rattle.transaction_set.specs.declared.kind.Form.TheVariants as forms
 use Rattle.segments.specs.declared.segment_fault.SegmentFault.{SegmentFault}
 use Rattle.base_record_894.specs.FirstRefusal.{refusal_of as base_refusal}
 use Rattle.base_record_894.specs.RecordText.{Is894}

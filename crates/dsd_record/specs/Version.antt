@@ -6,8 +6,8 @@ use Rattle.dsd_values.specs.Calendar.{Date}
 use Rattle.dsd_values.specs.declared.extra.Extra.{Extra}
 use Rattle.dsd_values.specs.declared.flag.Flag.{Flag}
 use Rattle.dsd_values.specs.declared.line.Line.{Line}
-use Rattle.segments.specs.Grammar.{IsSound}
-use Rattle.segments.specs.SoundLines.{IsSoundLine}
+use Rattle.transaction_set.specs.Grammar.{IsSound}
+use Rattle.transaction_set.specs.SoundLines.{IsSoundLine}
 
 pub record Version : Type 0 where
   pub flag : Flag

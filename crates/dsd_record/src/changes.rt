@@ -2,7 +2,7 @@
 
 ghost use Rattle.std.specs.Prelude.{◌≡◌, IfOk, OnOk};
 ghost use Rattle.indexmap.specs.IndexMap.{values};
-ghost use Rattle.segments.specs.Grammar.{AreApart};
+ghost use Rattle.transaction_set.specs.Grammar.{AreApart};
 ghost use Rattle.dsd_record.specs.LineChanges.{changed, numbered};
 
 use dsd_values::{DsdNumber, Line, Lines, Memory};

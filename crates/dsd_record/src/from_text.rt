@@ -2,8 +2,8 @@
 
 ghost use Rattle.std.specs.Prelude.{◌≡◌, ◌<◌, ◌≤◌, length, IfOk, None, OnOk, Some};
 ghost use Rattle.dsd_values.specs.declared.limits.TheConstants.{SET_BYTES};
-ghost use Rattle.segments.specs.Refusal.{Answers, IsWithin};
-ghost use Rattle.segments.specs.declared.kind.Form.TheVariants as forms;
+ghost use Rattle.transaction_set.specs.Refusal.{Answers, IsWithin};
+ghost use Rattle.transaction_set.specs.declared.kind.Form.TheVariants as forms;
 ghost use Rattle.dsd_record.specs.ReadSets.{set_in};
 ghost use Rattle.dsd_record.specs.SetTexts.{IsSet, begins_as, set_refusal};
 ghost use Rattle.dsd_record.specs.declared.set_view.SetView.{SetView as Set};
@@ -11,7 +11,8 @@ ghost use Rattle.dsd_record.specs.declared.set_view.SetView.{SetView as Set};
 use crate::set_view::SetView;
 use adjustment_895::read_895;
 use base_record_894::read_894;
-use segments::{Form, SegmentReader, SetFault, is_start_of};
+use segments::SegmentReader;
+use transaction_set::{Form, SetFault, is_start_of};
 use std::alloc::Global;
 
 /// Reads the set of a text: an answer where the text begins as one, else a base record.

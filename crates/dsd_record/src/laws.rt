@@ -1,16 +1,16 @@
 //! Laws of the texts that are sets.
 
 ghost use Rattle.std.specs.Prelude.{◌≡◌, ◌↔◌, ℕ, List, [], None, Some, true, false};
-ghost use Rattle.segments.specs.Kinds.{is_start_of};
-ghost use Rattle.segments.specs.Refusal.{Refusal};
+ghost use Rattle.transaction_set.specs.Kinds.{is_start_of};
+ghost use Rattle.transaction_set.specs.Refusal.{Refusal};
 ghost use Rattle.segments.specs.SegmentCut.{text_start};
 ghost use Rattle.segments.specs.SegmentRefusal.{IsFault};
 ghost use Rattle.segments.specs.SegmentSpelling.{IsFront};
 ghost use Rattle.segments.specs.Views.{Left, Seg};
-ghost use Rattle.segments.specs.declared.kind.Form.{Form};
-ghost use Rattle.segments.specs.declared.kind.Form.TheVariants as forms;
+ghost use Rattle.transaction_set.specs.declared.kind.Form.{Form};
+ghost use Rattle.transaction_set.specs.declared.kind.Form.TheVariants as forms;
 ghost use Rattle.segments.specs.declared.segment_fault.SegmentFault.{SegmentFault};
-ghost use Rattle.segments.specs.declared.set_fault.SetReason.TheVariants as reasons;
+ghost use Rattle.transaction_set.specs.declared.set_fault.SetReason.TheVariants as reasons;
 ghost use Rattle.dsd_record.specs.ReadSets.{set_in};
 ghost use Rattle.dsd_record.specs.SetTexts.{BeginsAs, IsSet, begins_as, form_of, set_refusal};
 ghost use Rattle.dsd_record.specs.declared.set_view.SetView.{SetView};

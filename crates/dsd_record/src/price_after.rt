@@ -4,9 +4,9 @@ ghost use Rattle.std.specs.Prelude.{◌≡◌, ◌≤◌, All, IfErr, IfOk, OnOk
 ghost use Rattle.dsd_values.specs.Answers.{UnlessMemory};
 ghost use Rattle.dsd_values.specs.declared.limits.TheConstants.{MOST_LINES as MOST};
 ghost use Rattle.dsd_values.specs.declared.quantity.TheConstants.{MOST_TOTAL_QUANTITY};
-ghost use Rattle.segments.specs.Extras.{AreExtras, HasExtras};
+ghost use Rattle.transaction_set.specs.Extras.{AreExtras, HasExtras};
 ghost use Rattle.dsd_record.specs.ChangedPrice.{IsPriceAfter, IsRefused, price_with, totals_within};
-ghost use Rattle.segments.specs.SoundLines.{AreSoundLines};
+ghost use Rattle.transaction_set.specs.SoundLines.{AreSoundLines};
 ghost use Rattle.dsd_record.specs.declared.price_after.ChangeFault.TheVariants.{Memory as WantOfMemory};
 
 use crate::changes::changed_lines;

@@ -7,7 +7,7 @@ ghost use Rattle.std.specs.Option.{option_copied};
 ghost use Rattle.indexmap.specs.IndexMap.{values};
 ghost use Rattle.dsd_pricing.specs.Pricing.{totals_of};
 ghost use Rattle.dsd_values.specs.declared.limits.TheConstants.{MOST_LINES as MOST};
-ghost use Rattle.segments.specs.Reasons.{has_line};
+ghost use Rattle.transaction_set.specs.Reasons.{has_line};
 ghost use Rattle.dsd_record.specs.Chain.{chain_from, version_of};
 ghost use Rattle.dsd_record.specs.LineChanges.{line_under, numbered};
 ghost use Rattle.dsd_record.specs.Version.{IsVersion};

@@ -2,7 +2,7 @@
 
 use adjustment_895::Answer895;
 use base_record_894::Base;
-use segments::Seal;
+use transaction_set::Seal;
 
 /// One of the two sets, with what ties it to its text.
 #[derive(Debug, Drop)]

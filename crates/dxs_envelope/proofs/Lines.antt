@@ -9,7 +9,7 @@ use Rattle.dsd_values.proofs.Again.{twenty_digits}
 use Rattle.segments.specs.SegmentWriting.{Written, begun_with, given, line_of, without_empty_end}
 use Rattle.segments.specs.declared.segment_write_fault.TheConstants.{SEGMENT_WRITTEN}
 use Rattle.segments.proofs.EmptyEnds.{trim_filled}
-use Rattle.segments.specs.declared.texts.TheConstants.{MOST_CONTROL_NUMBER}
+use Rattle.segments.specs.declared.segment_writer.TheConstants.{MOST_CONTROL_NUMBER}
 use Rattle.dxs_envelope.specs.Sending.{header_row, trailer_row}
 
 -- ---- without empty elements at the end

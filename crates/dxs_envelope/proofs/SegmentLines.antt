@@ -7,7 +7,7 @@ use Rattle.std.proofs.lemmas.Bool.Decides.{nat_tests}
 use Rattle.std.proofs.lemmas.List.Folds.{list_all-append}
 use Rattle.std.proofs.lemmas.List.Sums.{list_all-from_AllPass}
 use Rattle.std.proofs.lemmas.List.Elements.{All-append, All-cons, All-nil, All-head, All-tail}
-use Rattle.segments.specs.Kinds.{has_id}
+use Rattle.segments.specs.Views.{has_id}
 use Rattle.segments.specs.SegmentSpelling.{IsEnding, IsPart, SpellsSegment, SpellsSegments, is_element_character, is_id, is_inside}
 use Rattle.segments.specs.Views.{Seg, element_of}
 use Rattle.dex_line.specs.Bytes.{ends_id, is_text}

@@ -19,7 +19,7 @@ use Rattle.segments.specs.SegmentSpelling.{IsPart, SpellsSegments}
 use Rattle.segments.specs.SegmentWriting.{IsLine, line_of, segment_of}
 use Rattle.segments.specs.Views.{Seg, element_of}
 use Rattle.segments.proofs.Written.{element_part, segment_spelled}
-use Rattle.segments.specs.declared.texts.TheConstants.{MOST_CONTROL_NUMBER}
+use Rattle.segments.specs.declared.segment_writer.TheConstants.{MOST_CONTROL_NUMBER}
 use Rattle.dxs_envelope.specs.EnvelopeTable.{count_in, has_function, has_length, is_control_number, is_header, is_trailer}
 use Rattle.segments.specs.SetUnits.{AreUnits, IsInUnits}
 use Rattle.dxs_envelope.specs.Sending.{IsCommId, Sent, header_row, placed, trailer_row}

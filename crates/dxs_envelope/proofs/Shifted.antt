@@ -3,10 +3,10 @@ use Rattle.std.proofs.Common.{◌≡◌, ℕ, ◌+◌, ◌<◌, ◌≤◌, false
 use Rattle.std.specs.Prelude.{All}
 use Rattle.std.specs.List.{concat}
 use Rattle.std.proofs.lemmas.List.Elements.{All-cons, All-nil, All-head, All-tail}
-use Rattle.segments.specs.Kinds.{has_id}
+use Rattle.segments.specs.Views.{has_id}
 use Rattle.segments.specs.SegmentSpelling.{SpellsSegments}
 use Rattle.segments.specs.Views.{Seg}
-use Rattle.segments.proofs.Reading.{bytes_some}
+use Rattle.segments.proofs.Spelled.{bytes_some}
 use Rattle.segments.specs.SetUnits.{AreUnits, EndsInReturn, Fits, IsSet, IsSetText, units_of}
 use Rattle.dxs_envelope.specs.Sending.{placed}
 use Rattle.dxs_envelope.specs.Transmission.{bytes_of, joined_sets, set_at, start_of}

@@ -6,7 +6,7 @@ use Rattle.std.proofs.lemmas.Bool.Decides.{nat_tests}
 use Rattle.std.proofs.lemmas.List.Elements.{All-head, All-tail}
 use Rattle.std.proofs.lemmas.Slice.Eq.{bytes_eq-Decides}
 use Rattle.segments.specs.Elements.{◌or_else◌}
-use Rattle.segments.specs.Kinds.{has_id}
+use Rattle.segments.specs.Views.{has_id}
 use Rattle.segments.specs.Views.{Seg, element_of}
 use Rattle.dxs_envelope.specs.EnvelopeTable.{count_in, has_function, is_trailer}
 use Rattle.dxs_envelope.specs.FirstFault.{Front, Between, Inside, Behind, longer, told_at, told_behind, told_first, told_from, trailer_reason, unless, whole}

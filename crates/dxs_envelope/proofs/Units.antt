@@ -5,7 +5,7 @@ use Rattle.std.specs.Str.{bytes_eq}
 use Rattle.std.proofs.lemmas.Bool.{cases_Bool}
 use Rattle.std.proofs.lemmas.List.Elements.{All-append, All-cons, All-nil, All-head, All-tail}
 use Rattle.std.proofs.lemmas.Slice.Eq.{bytes_eq-Decides}
-use Rattle.segments.specs.Kinds.{has_id}
+use Rattle.segments.specs.Views.{has_id}
 use Rattle.segments.specs.Views.{Seg, element_of}
 use Rattle.segments.specs.SetUnits.{AreUnits, EndsInReturn, Fits, IsSet, units_of}
 use Rattle.dxs_envelope.specs.Transmission.{joined_sets}

@@ -5,7 +5,7 @@ use Rattle.std.specs.List.{list_all}
 use Rattle.std.proofs.lemmas.Bool.Decides.{nat_tests}
 use Rattle.std.proofs.lemmas.List.Elements.{All-cons, All-nil}
 use Rattle.std.proofs.lemmas.List.Sums.{AllPass-from_list_all}
-use Rattle.segments.specs.Kinds.{has_id}
+use Rattle.segments.specs.Views.{has_id}
 use Rattle.segments.specs.SegmentSpelling.{IsPart, is_element_character, is_id}
 use Rattle.segments.specs.SegmentWriting.{IsLine, line_of, segment_of, segments_of, text_of}
 use Rattle.segments.specs.Views.{Seg}

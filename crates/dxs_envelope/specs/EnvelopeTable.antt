@@ -8,7 +8,7 @@ use Rattle.std.specs.Str.{bytes_eq}
 use Rattle.dsd_values.specs.Reading.{plain_number_of}
 use Rattle.dsd_values.specs.declared.limits.TheConstants.{WORD_BYTES}
 use Rattle.segments.specs.Elements.{at_element, no_more, said}
-use Rattle.segments.specs.Kinds.{has_id}
+use Rattle.segments.specs.Views.{has_id}
 use Rattle.segments.specs.Views.{Seg, element_of}
 
 -- A text of so many bytes. Elements have element characters alone, so that a word is known by its length.

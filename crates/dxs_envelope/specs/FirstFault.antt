@@ -3,7 +3,7 @@
 use Rattle.std.specs.Prelude.{ℕ, ◌+◌, Bool, ◌==◌, List, [], ◌∷◌, ◌++◌, length, codes, Option, Some, None, if◌then◌else◌}
 use Rattle.std.specs.Str.{bytes_eq}
 use Rattle.segments.specs.Elements.{◌or_else◌}
-use Rattle.segments.specs.Kinds.{has_id}
+use Rattle.segments.specs.Views.{has_id}
 use Rattle.segments.specs.SegmentCut.{cut_left, text_start}
 use Rattle.segments.specs.Views.{Left, Seg, element_of}
 use Rattle.segments.specs.declared.segment_fault.SegmentFault.{SegmentFault}

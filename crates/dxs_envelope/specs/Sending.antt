@@ -6,7 +6,7 @@ use Rattle.dsd_values.specs.Writing.{number_text}
 use Rattle.dsd_values.specs.declared.comm_id.TheConstants.{COMM_ID_BYTES}
 use Rattle.segments.specs.SegmentWriting.{line_of}
 use Rattle.segments.specs.SetUnits.{IsSetText}
-use Rattle.segments.specs.declared.texts.TheConstants.{MOST_CONTROL_NUMBER}
+use Rattle.segments.specs.declared.segment_writer.TheConstants.{MOST_CONTROL_NUMBER}
 use Rattle.dxs_envelope.specs.Views.{SetAt}
 use Rattle.dxs_envelope.specs.declared.outgoing.TheConstants.{TRANSMISSION_BYTES}
 use Rattle.dxs_envelope.specs.declared.outgoing.EnvelopeWriteFault.{EnvelopeWriteFault}

@@ -8,7 +8,7 @@ ghost use Rattle.segments.specs.SegmentWriting.{line_of, parts_of_begun};
 ghost use Rattle.segments.specs.SetUnits.{IsSetText};
 ghost use Rattle.dxs_envelope.specs.Sending.{IsCommId, Sent, header_row, text_of_sets, trailer_row, unless_long};
 ghost use Rattle.segments.specs.declared.segment_write_fault.TheConstants.{SEGMENT_WRITTEN};
-ghost use Rattle.segments.specs.declared.texts.TheConstants.{MOST_CONTROL_NUMBER};
+ghost use Rattle.segments.specs.declared.segment_writer.TheConstants.{MOST_CONTROL_NUMBER};
 
 use super::outgoing::{EnvelopeWriteFault, Outgoing, TRANSMISSION_BYTES};
 use dsd_values::{CommId, Memory, SetText, write_plain_number};

@@ -3,7 +3,7 @@
 ghost use Rattle.std.specs.Prelude.{◌≡◌, ◌++◌, OnOk};
 ghost use Rattle.std.specs.List.{flat_map};
 ghost use Rattle.dsd_values.specs.Writing.{two_digits};
-ghost use Rattle.segments.specs.Extras.{HasExtras};
+ghost use Rattle.transaction_set.specs.Extras.{HasExtras};
 ghost use Rattle.end_report.specs.Reports.{final_name, final_text, flag_text, heading, item_line, item_name, money_text, net_of, open_text, size_text, totals_text, worth_text};
 
 use crate::lines::{put, put_bytes, put_named, put_number, put_signed};

@@ -22,10 +22,10 @@ use Rattle.base_record_894.specs.Making.{record_made, unless_unpriced}
 use Rattle.base_record_894.specs.declared.head.BaseHead.{BaseHead}
 use Rattle.dsd_record.specs.declared.draft_fault.DraftFault.{DraftFault}
 use Rattle.dsd_record.specs.declared.draft_fault.DraftFault.TheVariants.{Memory}
-use Rattle.segments.specs.Grammar.{AreApart}
-use Rattle.segments.specs.Reasons.{has_line, last_extras}
-use Rattle.segments.proofs.Apart.{apart_at}
-use Rattle.segments.proofs.Behind.{last_extras_last}
+use Rattle.transaction_set.specs.Grammar.{AreApart}
+use Rattle.transaction_set.specs.Reasons.{has_line, last_extras}
+use Rattle.transaction_set.proofs.Apart.{apart_at}
+use Rattle.transaction_set.proofs.Behind.{last_extras_last}
 use Rattle.plain_lines.specs.Counting.{AreCounts, SaysCounted, counts_with, is_counted, number_of as number_of_counted}
 use Rattle.plain_lines.specs.Keyed.{AreApartBy}
 use Rattle.plain_lines.specs.PlainText.{LineSeen, leads, lines_in, piece_of, word_of_line}

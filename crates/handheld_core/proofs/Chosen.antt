@@ -1,6 +1,6 @@
 -- What a supplier chooses is sound.
 use Rattle.std.proofs.Common.{◌≡◌, ℕ, ◌==◌, bytes_eq, Bool, true, false, List, [], ◌∷◌, Option, Some, None, if◌then◌else◌, refl, arith}
-use Rattle.segments.specs.SoundLines.{AreSoundLines}
+use Rattle.transaction_set.specs.SoundLines.{AreSoundLines}
 use Rattle.dsd_values.specs.declared.line.Line.{Line}
 use Rattle.dsd_record.specs.Choices.{ChoosesSoundly, IsSoundChoice}
 use Rattle.dsd_record.specs.Version.{Version}

@@ -5,11 +5,11 @@ use Rattle.std.proofs.lemmas.Bool.Decides.{nat_tests}
 use Rattle.std.proofs.lemmas.List.Elements.{All-cons, All-head, All-nil, All-tail}
 use Rattle.dsd_values.specs.declared.line.Line.{Line}
 use Rattle.dsd_record.specs.LineChanges.{line_under}
-use Rattle.segments.specs.Grammar.{AreApart}
-use Rattle.segments.specs.Reasons.{has_line}
-use Rattle.segments.specs.SoundLines.{AreSoundLines, IsSoundLine}
-use Rattle.segments.proofs.Small.{both_false}
-use Rattle.segments.proofs.Sounding.{counted_line}
+use Rattle.transaction_set.specs.Grammar.{AreApart}
+use Rattle.transaction_set.specs.Reasons.{has_line}
+use Rattle.transaction_set.specs.SoundLines.{AreSoundLines, IsSoundLine}
+use Rattle.transaction_set.proofs.Small.{both_false}
+use Rattle.transaction_set.proofs.Sounding.{counted_line}
 use Rattle.plain_lines.specs.Counting.{AreCountedApart, AreCounts, IsRightCounted, is_counted, number_of}
 use Rattle.plain_lines.specs.declared.counted.Counted.{Counted}
 use Rattle.plain_lines.proofs.Counts.{new_sound}

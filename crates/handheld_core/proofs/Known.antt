@@ -6,7 +6,7 @@ use Rattle.std.proofs.lemmas.List.Elements.{All-append, All-cons, All-head, All-
 use Rattle.base_record_894.specs.BaseRecord.{BaseRecord}
 use Rattle.base_record_894.specs.RecordText.{IsBase}
 use Rattle.dsd_record.specs.Choices.{AreDraftsApart, has_draft}
-use Rattle.segments.proofs.Small.{both_false}
+use Rattle.transaction_set.proofs.Small.{both_false}
 use Rattle.plain_lines.specs.Keyed.{AreApartBy}
 use Rattle.plain_lines.proofs.Keyed.{apart_more, both, pushed_is, turned_texts}
 use Rattle.handheld_core.specs.DraftTexts.{AreDrafts, IsDraft, is_known, number_of, numbered}

@@ -7,8 +7,8 @@ use Rattle.dsd_values.specs.declared.fault.ValueFault.TheVariants.{OutOfRange}
 use Rattle.dsd_values.specs.declared.line.Line.{Line}
 use Rattle.dsd_values.proofs.Laws.{decimal_of_spelled}
 use Rattle.dsd_values.proofs.Refusals.{bounded_ok, filled_ok}
-use Rattle.segments.specs.Allowances.{has_size}
-use Rattle.segments.specs.SoundLines.{IsAtMost, IsPlainAllowance, IsPlainLine, IsPlainWord}
+use Rattle.transaction_set.specs.Allowances.{has_size}
+use Rattle.transaction_set.specs.SoundLines.{IsAtMost, IsPlainAllowance, IsPlainLine, IsPlainWord}
 use Rattle.plain_lines.specs.PlainText.{LineSeen, word_of_line}
 use Rattle.plain_lines.specs.Refusing.{value_at}
 use Rattle.plain_lines.proofs.Unrefused.{bind_ok, number_within, ok_same, value_ok}

@@ -9,12 +9,12 @@ use Rattle.dsd_values.specs.declared.extra.Extra.{Extra}
 use Rattle.dsd_values.specs.declared.extra.Extra.TheVariants.{Allow}
 use Rattle.dsd_values.specs.declared.fault.Memory.{Memory}
 use Rattle.dsd_values.specs.declared.line.Line.{Line}
-use Rattle.segments.specs.Extras.{is_allowance}
-use Rattle.segments.specs.Reasons.{has_line, last_extras}
-use Rattle.segments.specs.SoundLines.{AreSoundLines, IsPlainAllowance, IsPlainLine, IsSoundExtra, IsSoundLine}
-use Rattle.segments.proofs.Apart.{apart_push}
-use Rattle.segments.proofs.Behind.{apart_extra, extras_push, length_extra}
-use Rattle.segments.proofs.Sounding.{no_extras, plain_allowance, plain_line}
+use Rattle.transaction_set.specs.Extras.{is_allowance}
+use Rattle.transaction_set.specs.Reasons.{has_line, last_extras}
+use Rattle.transaction_set.specs.SoundLines.{AreSoundLines, IsPlainAllowance, IsPlainLine, IsSoundExtra, IsSoundLine}
+use Rattle.transaction_set.proofs.Apart.{apart_push}
+use Rattle.transaction_set.proofs.Behind.{apart_extra, extras_push, length_extra}
+use Rattle.transaction_set.proofs.Sounding.{no_extras, plain_allowance, plain_line}
 use Rattle.handheld_core.specs.DraftRows.{AreAllowances, AreRows, IsItem, Rows, allowed, beside}
 
 -- ---- allowances

@@ -23,8 +23,8 @@ use Rattle.base_record_894.specs.Making.{record_made, unless_unpriced}
 use Rattle.base_record_894.specs.declared.head.BaseHead.{BaseHead}
 use Rattle.dsd_record.specs.declared.draft_fault.DraftFault.{DraftFault}
 use Rattle.dsd_record.specs.declared.draft_fault.DraftFault.TheVariants.{Memory}
-use Rattle.segments.specs.Reasons.{has_line}
-use Rattle.segments.proofs.Behind.{length_extra}
+use Rattle.transaction_set.specs.Reasons.{has_line}
+use Rattle.transaction_set.proofs.Behind.{length_extra}
 use Rattle.plain_lines.specs.Counting.{AreCounts, counts_with}
 use Rattle.plain_lines.specs.Keyed.{AreApartBy}
 use Rattle.plain_lines.specs.PlainText.{LineSeen, leads, lines_in, word_of_line}

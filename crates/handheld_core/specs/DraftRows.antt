@@ -14,9 +14,9 @@ use Rattle.dsd_values.specs.declared.limits.TheConstants.{MOST_ALLOWANCES, MOST_
 use Rattle.dsd_values.specs.declared.line.Line.{Line}
 use Rattle.dsd_record.specs.declared.draft_fault.DraftFault.{DraftFault}
 use Rattle.dsd_record.specs.declared.draft_fault.DraftReason.TheVariants as reasons
-use Rattle.segments.specs.Grammar.{AreApart}
-use Rattle.segments.specs.Reasons.{has_line, last_extras}
-use Rattle.segments.specs.SoundLines.{AreSoundExtras, IsPlainLine}
+use Rattle.transaction_set.specs.Grammar.{AreApart}
+use Rattle.transaction_set.specs.Reasons.{has_line, last_extras}
+use Rattle.transaction_set.specs.SoundLines.{AreSoundExtras, IsPlainLine}
 use Rattle.plain_lines.specs.PlainText.{LineSeen, word_of_line}
 use Rattle.plain_lines.specs.Refusing.{◌>>=◌, refused_if, value_at}
 use Rattle.handheld_core.specs.declared.allowance.Form.{Form}

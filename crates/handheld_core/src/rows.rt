@@ -2,8 +2,8 @@
 
 ghost use Rattle.std.specs.Prelude.{◌≡◌, ◌<◌, ◌≤◌, false, length, OnOk, [], ◌∷◌, ◌++◌};
 ghost use Rattle.dsd_values.specs.declared.limits.TheConstants.{MOST_ALLOWANCES as MOST_BESIDE, MOST_LINES as MOST};
-ghost use Rattle.segments.specs.Reasons.{has_line, last_extras};
-ghost use Rattle.segments.specs.SoundLines.{AreSoundExtras, AreSoundLines, IsPlainAllowance, IsPlainLine};
+ghost use Rattle.transaction_set.specs.Reasons.{has_line, last_extras};
+ghost use Rattle.transaction_set.specs.SoundLines.{AreSoundExtras, AreSoundLines, IsPlainAllowance, IsPlainLine};
 ghost use Rattle.plain_lines.specs.Refusing.{Steps};
 ghost use Rattle.handheld_core.specs.DraftRows.{AreRows, allowed, beside, with_allowance, with_item};
 
@@ -161,7 +161,7 @@ fn has_number(lines: &[Line], dsd: DsdNumber) -> bool
 }
 
 /// How many extras stand behind the last line.
-#[tactic(auto, using(segments::proofs::Behind::last_extras_last))]
+#[tactic(auto, using(transaction_set::proofs::Behind::last_extras_last))]
 fn last_count(lines: &[Line]) -> usize
     ensures { result ≡ length (last_extras lines.now) }
 {

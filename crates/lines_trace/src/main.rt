@@ -22,7 +22,7 @@ use dsd_values::{read_cents, read_delivery_number};
 use handheld_core::Drafts;
 use printing::{print_count, print_draft, print_lines, print_refusal, print_version};
 use receiver_core::Counts;
-use segments::Seal;
+use transaction_set::Seal;
 use std::alloc::Global;
 use std::io::{BufRead, BufReader, BufWriter, Write};
 use std::{io, str};

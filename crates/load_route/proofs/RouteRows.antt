@@ -11,10 +11,10 @@ use Rattle.std.proofs.lemmas.List.FromFn.{length-map-range_with_len}
 use Rattle.std.proofs.lemmas.List.Sums.{sum_by-le}
 use Rattle.std.proofs.lemmas.Nat.{row_fits}
 use Rattle.dsd_values.specs.declared.line.Line.{Line}
-use Rattle.segments.specs.Extras.{IsSized}
-use Rattle.segments.specs.Grammar.{AreApart}
-use Rattle.segments.specs.Reasons.{has_line}
-use Rattle.segments.specs.SoundLines.{IsPlainWord, IsSoundExtra}
+use Rattle.transaction_set.specs.Extras.{IsSized}
+use Rattle.transaction_set.specs.Grammar.{AreApart}
+use Rattle.transaction_set.specs.Reasons.{has_line}
+use Rattle.transaction_set.specs.SoundLines.{IsPlainWord, IsSoundExtra}
 use Rattle.dsd_pricing.specs.Pricing.{extension_of, extensions, line_effects, priced, signed_sum_by, totals_of}
 use Rattle.base_record_894.proofs.Amounts.{priced_totals}
 use Rattle.plain_lines.specs.Counting.{AreCounts, IsRightCounted, number_of as number_of_counted}

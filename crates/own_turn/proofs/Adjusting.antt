@@ -14,7 +14,7 @@ use Rattle.dsd_values.specs.declared.fault.ValueFault.{ValueFault}
 use Rattle.dsd_values.proofs.Laws.{number_spelled}
 use Rattle.dsd_values.proofs.Refusals.{filled_ok}
 use Rattle.segments.specs.Views.{Seg, element_of}
-use Rattle.segments.specs.declared.seal.Seal.{Seal}
+use Rattle.transaction_set.specs.declared.seal.Seal.{Seal}
 use Rattle.base_record_894.specs.BaseRecord.{BaseRecord}
 use Rattle.base_record_894.specs.WrittenText.{written_of as base_written}
 use Rattle.adjustment_895.specs.AnswerRecord.{AnswerRecord}

@@ -3,7 +3,7 @@ use Rattle.std.proofs.Common.{◌≡◌, ℕ, ◌≤◌, List, [], ◌∷◌, �
 use Rattle.std.specs.Option.{option_map}
 use Rattle.dsd_values.specs.declared.role.Role.{Role}
 use Rattle.segments.specs.SetUnits.{IsSetText}
-use Rattle.segments.specs.declared.texts.TheConstants.{MOST_CONTROL_NUMBER}
+use Rattle.segments.specs.declared.segment_writer.TheConstants.{MOST_CONTROL_NUMBER}
 use Rattle.base_record_894.proofs.OneRecord.{is_base}
 use Rattle.base_record_894.proofs.WrittenBack.{written_back as base_back}
 use Rattle.adjustment_895.proofs.OneAnswer.{is_answer}

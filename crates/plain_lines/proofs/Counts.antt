@@ -3,8 +3,8 @@ use Rattle.std.proofs.Common.{◌≡◌, ℕ, ◌<◌, nat_eq, true, false, List
 use Rattle.std.specs.List.{All}
 use Rattle.std.specs.Map.{values_of}
 use Rattle.std.proofs.lemmas.List.Elements.{All-append, All-cons, All-nil}
-use Rattle.segments.specs.SoundLines.{IsPlainWord, IsSoundLine}
-use Rattle.segments.proofs.Sounding.{no_extras, plain_line}
+use Rattle.transaction_set.specs.SoundLines.{IsPlainWord, IsSoundLine}
+use Rattle.transaction_set.proofs.Sounding.{no_extras, plain_line}
 use Rattle.plain_lines.specs.Counting.{AreCounts, IsRightCounted, counted_under, counts_numbered, is_counted, new_line, number_of}
 use Rattle.plain_lines.specs.declared.counted.Counted.{Counted}
 use Rattle.plain_lines.proofs.Keyed.{apart_more, found_all, pushed_is, turned_numbers}

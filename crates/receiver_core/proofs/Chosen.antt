@@ -1,7 +1,7 @@
 -- What a receiver chooses is sound.
 use Rattle.std.proofs.Common.{◌≡◌, ℕ, ◌==◌, nat_le, bytes_eq, ◌&&◌, Bool, true, false, List, [], ◌∷◌, Option, Some, None, if◌then◌else◌, refl, arith}
 use Rattle.dsd_values.specs.declared.line.Line.{Line}
-use Rattle.segments.specs.SoundLines.{AreSoundLines}
+use Rattle.transaction_set.specs.SoundLines.{AreSoundLines}
 use Rattle.dsd_record.specs.Choices.{ChoosesSoundly, IsSoundChoice}
 use Rattle.dsd_record.specs.Version.{Version}
 use Rattle.dsd_record.specs.declared.choice.Choice.TheVariants.{Accept, Adjust, Wait}

@@ -7,12 +7,12 @@ use Rattle.std.proofs.lemmas.List.Elements.{All-append, All-cons, All-head, All-
 use Rattle.dsd_values.specs.Reading.{cost_of}
 use Rattle.dsd_values.specs.declared.line.Line.{Line}
 use Rattle.dsd_values.proofs.Laws.{decimal_of_spelled}
-use Rattle.segments.specs.Grammar.{AreApart}
-use Rattle.segments.specs.Reasons.{has_line}
-use Rattle.segments.specs.SoundLines.{AreSoundLines, IsSoundLine}
+use Rattle.transaction_set.specs.Grammar.{AreApart}
+use Rattle.transaction_set.specs.Reasons.{has_line}
+use Rattle.transaction_set.specs.SoundLines.{AreSoundLines, IsSoundLine}
 use Rattle.segments.specs.Views.{element_of}
-use Rattle.segments.proofs.Small.{both_false, or_false}
-use Rattle.segments.proofs.Sounding.{counted_line}
+use Rattle.transaction_set.proofs.Small.{both_false, or_false}
+use Rattle.transaction_set.proofs.Sounding.{counted_line}
 use Rattle.plain_lines.specs.Counting.{AreCountedApart, AreCounts, IsRightCounted, counted_under, is_counted, number_of, recounted}
 use Rattle.plain_lines.specs.declared.counted.Counted.{Counted}
 use Rattle.plain_lines.proofs.Counts.{new_sound, right_under}

@@ -1,7 +1,7 @@
 -- One more line of a list of which what is left still gives the rest.
 use Rattle.std.proofs.Common.{◌≡◌, Bool, true, false, List, [], ◌∷◌, ◌++◌, Option, Some, None, if◌then◌else◌, sym, ap, ◌∙◌, append_assoc}
 use Rattle.dsd_values.specs.declared.line.Line.{Line}
-use Rattle.segments.specs.Reasons.{has_line}
+use Rattle.transaction_set.specs.Reasons.{has_line}
 use Rattle.plain_lines.specs.Counting.{counted_under, new_line}
 use Rattle.plain_lines.specs.declared.counted.Counted.{Counted}
 use Rattle.receiver_core.specs.Choosing.{added, change_of, differing, with_change}

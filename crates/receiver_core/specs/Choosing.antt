@@ -2,7 +2,7 @@
 use Rattle.std.specs.Prelude.{ℕ, Bool, ◌&&◌, ◌==◌, nat_le, List, [], ◌∷◌, ◌++◌, Option, Some, None, if◌then◌else◌}
 use Rattle.std.specs.Option.{option_map}
 use Rattle.dsd_values.specs.declared.line.Line.{Line}
-use Rattle.segments.specs.Reasons.{has_line}
+use Rattle.transaction_set.specs.Reasons.{has_line}
 use Rattle.dsd_record.specs.Choices.{Chooser}
 use Rattle.dsd_record.specs.Version.{Version}
 use Rattle.dsd_record.specs.declared.choice.Choice.{Choice}

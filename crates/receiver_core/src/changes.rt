@@ -1,7 +1,7 @@
 //! The lines of a record that differ from what was counted.
 
 ghost use Rattle.std.specs.Prelude.{◌≡◌, ◌++◌, not, IfOk, OnOk, Option};
-ghost use Rattle.segments.specs.Reasons.{has_line};
+ghost use Rattle.transaction_set.specs.Reasons.{has_line};
 ghost use Rattle.receiver_core.specs.Choosing.{added, change_of as line_change, changes_of as all_changes, differing};
 
 use dsd_record::DsdRecord;

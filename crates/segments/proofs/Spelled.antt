@@ -96,3 +96,12 @@ end_of-next old h = at_end old.rest (some_of (first_of old.place old.rest)) (non
 pub answer_stays : (old new : Left) (answer : Result (Option Seg) SegmentFault) → answer ≡ next_of old → new ≡ left_after old → OnErr answer (new ≡ old)
 answer_stays old new (Ok some) e f = tt
 answer_stays old new (Err fault) e f = f ∙ left_after-fault old fault (sym e)
+
+-- ---- a segment has bytes
+
+some_bytes : (bytes front ending : List ℕ) → IsEnding ending → bytes ≡ front ++ ending → 0 < length bytes
+some_bytes bytes front ending (inl e) joined = omega (arith, ap length joined, length-append front ending, ap length e)
+some_bytes bytes front ending (inr e) joined = omega (arith, ap length joined, length-append front ending, ap length e)
+
+pub bytes_some : (seg : Seg) → SpellsSegment seg → 0 < length seg.bytes
+bytes_some seg is = some_bytes seg.bytes (join_with_byte 42 seg.parts) is.spelled.0 is.spelled.1 is.spelled.2

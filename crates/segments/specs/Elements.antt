@@ -60,6 +60,10 @@ without_end_stars (b ∷ more) = or_star b (without_end_stars more)
 abbrev pub tail_from : ℕ → Seg → List ℕ
 tail_from number seg = without_end_stars (join_with_byte 42 (drop number seg.parts))
 
+-- a segment as it is kept: the id and the elements joined, without empty ones at the end and without the terminator
+abbrev pub kept_text : Seg → List ℕ
+kept_text seg = tail_from 0 seg
+
 -- A call that reads elements refuses the first one that is refused, or answers as said. Want of memory is free.
 abbrev pub Reads : {X : Type 0} → Result X ItemFault → Option ElementFault → (X → Type 0) → Type 0
 Reads (Ok x) fault P = (fault ≡ None) × P x

@@ -1,7 +1,7 @@
 -- Texts of sets in whole units of the line: what a block takes whole.
 use Rattle.std.specs.Prelude.{◌≡◌, ℕ, ◌≤◌, false, true, ◌&&◌, if◌then◌else◌, List, [], ◌∷◌, ◌++◌, length, codes, All}
 use Rattle.std.specs.List.{join_with_byte}
-use Rattle.segments.specs.Kinds.{has_id}
+use Rattle.segments.specs.Views.{has_id}
 use Rattle.segments.specs.SegmentSpelling.{SpellsSegments}
 use Rattle.segments.specs.Views.{Seg}
 use Rattle.segments.specs.declared.segment_write_fault.TheConstants.{SEGMENT_WRITTEN}

@@ -1,6 +1,7 @@
 -- What contracts see of a segment, and of a reader of segments.
-use Rattle.std.specs.Prelude.{ℕ, List, []}
+use Rattle.std.specs.Prelude.{ℕ, Bool, List, []}
 use Rattle.std.specs.List.{slice_index_or}
+use Rattle.std.specs.Str.{bytes_eq}
 
 -- where a segment starts, its bytes with the terminator, and its id and elements; all as they stand in the text
 pub record Seg : Type 0 where
@@ -16,3 +17,7 @@ pub record Left : Type 0 where
 -- the id has number 0, the elements begin at 1, and an element past the last is empty
 abbrev pub element_of : Seg → ℕ → List ℕ
 element_of seg number = slice_index_or seg.parts number []
+
+-- the segment has this id
+abbrev pub has_id : Seg → List ℕ → Bool
+has_id seg id = bytes_eq (element_of seg 0) id

@@ -3,7 +3,7 @@
 ghost use Rattle.std.specs.Prelude.{◌≡◌, ◌+◌, ◌<◌, ◌≤◌, [], None, length, IfOk, Ok, Err};
 ghost use Rattle.dsd_values.specs.Answers.{UnlessMemory};
 ghost use Rattle.dsd_values.specs.Reading.{IsElementText, plain_number_of, dsd_of, quantity_of, total_quantity_of, cents_of, cost_of, check_of, word_of, filled_word_of, word_between};
-ghost use Rattle.segments.specs.Extras.{kept_text};
+ghost use Rattle.segments.specs.Elements.{kept_text};
 ghost use Rattle.segments.specs.Views.{element_of};
 ghost use Rattle.segments.specs.declared.segment.TheConstants.{SEGMENT_ELEMENTS};
 ghost use Rattle.dsd_values.specs.declared.fault.ValueFault.TheVariants.{TooLong};
@@ -204,7 +204,7 @@ fn kept(alloc: Global, text: &[u8]) -> Result<Kept, Memory>
     }
 }
 
-#[tactic(auto, using(crate::proofs::Trimmed::trim_one, crate::proofs::Trimmed::trim_none))]
+#[tactic(auto, using(crate::proofs::EndStars::trim_one, crate::proofs::EndStars::trim_none))]
 fn without_end_stars(text: &[u8]) -> &[u8]
     ensures value { result.now ≡ trimmed text.now }
     ensures shorter { length result.now ≤ length text.now }

@@ -3,7 +3,7 @@ ghost use Rattle.std.specs.List.{join_with_byte};
 ghost use Rattle.segments.specs.PartEnds.{IsSpelled, KeepsSegment, ends_from, start_of};
 ghost use Rattle.segments.specs.SegmentCut.{parts_of, seg_at, with_parts};
 ghost use Rattle.segments.specs.SegmentSpelling.{IsPart, SpellsSegment, is_id as is_id_spelling, is_id_byte as id_byte};
-ghost use Rattle.segments.specs.Views.{element_of};
+ghost use Rattle.segments.specs.Views.{element_of, has_id as starts_with_id};
 
 use crate::segment_body::PartEnds;
 use crate::segment_fault::SegmentFault;
@@ -164,6 +164,13 @@ fn tail_at<'a>(bytes: &'a [u8], ends: &[u16], number: usize) -> &'a [u8]
         part_start(ends, number),
         ends[ends.len() - 1] as usize,
     )
+}
+
+/// Whether the segment has this id.
+pub fn has_id(segment: &Segment<'_>, id: &[u8]) -> bool
+    ensures { result ≡ starts_with_id segment.now id.now }
+{
+    segment.id() == id
 }
 
 /// What stands from one place of a text up to another.

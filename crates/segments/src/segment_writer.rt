@@ -11,6 +11,9 @@ use dsd_values::{Memory, SetText};
 use std::alloc::Global;
 use std::marker::Model;
 
+/// The greatest control number that is written.
+pub const MOST_CONTROL_NUMBER: u32 = 999_999_999;
+
 /// Writes segments: an id, the elements each after a `*`, without the empty ones at their end, and CR LF. After a refusal it may
 /// only be dropped.
 #[derive(Drop)]

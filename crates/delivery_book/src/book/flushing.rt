@@ -6,7 +6,7 @@ ghost use Rattle.dsd_station.specs.Told.{ReadMayStay};
 ghost use Rattle.dsd_journal.specs.declared.entry.EntryKind.TheVariants.{Signed as IsSigned, Took as IsTook};
 ghost use Rattle.dsd_journal.specs.Journals.{Rests};
 ghost use Rattle.dsd_journal.specs.Steps.{Flushes};
-ghost use Rattle.segments.specs.SoundLines.{AreSoundLines};
+ghost use Rattle.transaction_set.specs.SoundLines.{AreSoundLines};
 ghost use Rattle.base_record_894.specs.WrittenText.{written_of as base_written};
 ghost use Rattle.delivery_book.specs.Answering.{IsAcceptance, IsAdjustment};
 ghost use Rattle.delivery_book.specs.Books.{FlushesOne, IsRefusal, IsStop, Keeps, flushed_book, stopped_book};

@@ -2,7 +2,7 @@
 
 ghost use Rattle.std.specs.Prelude.{◌≡◌, ◌<◌, IsTrue, Ok, length};
 ghost use Rattle.dsd_journal.specs.declared.entry.EntryKind.TheVariants.{Signed as IsSigned, Took as IsTook};
-ghost use Rattle.segments.specs.SoundLines.{AreSoundLines};
+ghost use Rattle.transaction_set.specs.SoundLines.{AreSoundLines};
 ghost use Rattle.base_record_894.specs.WrittenText.{written_of as base_written};
 ghost use Rattle.delivery_book.specs.Answering.{IsAcceptance, IsAdjustment};
 ghost use Rattle.delivery_book.specs.Books.{Stages};

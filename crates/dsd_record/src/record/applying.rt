@@ -3,7 +3,7 @@
 ghost use Rattle.std.specs.Prelude.{◌≡◌, ◌≢◌, [], All, Ok, OnErr, OnOk, true, false};
 ghost use Rattle.adjustment_895.specs.Grammar.{has_none};
 ghost use Rattle.dsd_values.specs.Answers.{UnlessMemory};
-ghost use Rattle.segments.specs.Extras.{AreExtras, HasExtras};
+ghost use Rattle.transaction_set.specs.Extras.{AreExtras, HasExtras};
 ghost use Rattle.dsd_record.specs.Applying.{Applies, Refuses, adjusted, applied, apply_fault, is_same_flag, lines_after, naming_fault, refused_by, rows_fault, totals_fault};
 ghost use Rattle.dsd_record.specs.Chain.{GoesOn};
 ghost use Rattle.dsd_record.specs.LineChanges.{numbered};

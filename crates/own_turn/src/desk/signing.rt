@@ -1,7 +1,7 @@
 //! Answering deliveries, and proposing new ones.
 
 ghost use Rattle.std.specs.Prelude.{◌≡◌, ◌<◌, [], IfErr, IfOk, IsOk, OnOk, Some, false, length, slice_get, true};
-ghost use Rattle.segments.specs.SoundLines.{AreSoundLines};
+ghost use Rattle.transaction_set.specs.SoundLines.{AreSoundLines};
 ghost use Rattle.base_record_894.specs.BaseRecord.{BaseRecord};
 ghost use Rattle.dsd_record.specs.Choices.{IsSoundChoice};
 ghost use Rattle.dsd_journal.specs.declared.adding_fault.StageFault.TheVariants.{Memory as NoMemory};

@@ -13,7 +13,7 @@ use crate::refusal::{Refusal, refusal_of};
 use dsd_journal::StageFault;
 use dsd_record::{SetView, set_of};
 use dxs_envelope::Sets;
-use segments::SetFault;
+use transaction_set::SetFault;
 
 impl Desk {
     /// Takes the sets that a heard text lends, up to its first envelope fault, which counts as a refused set. Without a heard text there are none.

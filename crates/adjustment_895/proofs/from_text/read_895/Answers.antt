@@ -1,5 +1,5 @@
 use Rattle.std.proofs.Common.{refl, ◌∙◌}
-use Rattle.segments.proofs.Reading.{same_err}
+use Rattle.transaction_set.proofs.Reading.{same_err}
 use Rattle.adjustment_895.proofs.OneAnswer.{only_err, spelled, found_as, same_read}
 use Rattle.adjustment_895.proofs.from_text.read_895.Goals as goal
 

@@ -6,7 +6,8 @@ use Rattle.segments.specs.SegmentSpelling.{IsFront}
 use Rattle.adjustment_895.specs.Said.{Said, after}
 use Rattle.adjustment_895.specs.FirstRefusal.{judged}
 use Rattle.adjustment_895.specs.ReadParts.{IsReadFrom}
-use Rattle.segments.proofs.Reading.{refusal_in, said_in, same_err, fault_answers, step_answers, end_answers, step_on, said_on, bytes_some}
+use Rattle.transaction_set.proofs.Reading.{refusal_in, said_in, same_err, fault_answers, step_answers, end_answers, step_on, said_on}
+use Rattle.segments.proofs.Spelled.{bytes_some}
 use Rattle.adjustment_895.proofs.Moves.{counted}
 use Rattle.adjustment_895.proofs.from_text.read_parts.Goals as goal
 

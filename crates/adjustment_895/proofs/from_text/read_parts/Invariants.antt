@@ -3,7 +3,7 @@ use Rattle.dsd_values.specs.declared.limits.TheConstants.{SET_BYTES}
 use Rattle.segments.specs.SegmentCut.{cut_of, cut_left}
 use Rattle.adjustment_895.specs.Said.{nothing}
 use Rattle.adjustment_895.specs.FirstRefusal.{judged, refusal_of}
-use Rattle.segments.proofs.Reading.{refusal_in, said_in}
+use Rattle.transaction_set.proofs.Reading.{refusal_in, said_in}
 use Rattle.adjustment_895.proofs.from_text.read_parts.Given as goal
 
 -- what is left is refused as the whole text is, and says with what was said what the whole text says

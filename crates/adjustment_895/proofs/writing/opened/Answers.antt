@@ -1,13 +1,13 @@
 use Rattle.std.proofs.Common.{sym, subst, List, ℕ, map}
 use Rattle.std.specs.List.{All}
 use Rattle.dsd_values.specs.Answers.{UnlessMemory}
-use Rattle.segments.specs.RowsWritten.{after_writing}
+use Rattle.transaction_set.specs.RowsWritten.{after_writing}
 use Rattle.segments.specs.SegmentSpelling.{IsSegment}
-use Rattle.segments.specs.SetWriting.{kept_row, start_row}
-use Rattle.segments.specs.declared.kind.Form.TheVariants as forms
+use Rattle.transaction_set.specs.SetWriting.{kept_row, start_row}
+use Rattle.transaction_set.specs.declared.kind.Form.TheVariants as forms
 use Rattle.segments.specs.declared.segment_write_fault.SegmentWriteFault.TheVariants.{Memory}
-use Rattle.segments.proofs.Rows.{same_err}
-use Rattle.segments.proofs.SetRows.{all_written, references_refused}
+use Rattle.transaction_set.proofs.Rows.{same_err}
+use Rattle.transaction_set.proofs.SetRows.{all_written, references_refused}
 use Rattle.adjustment_895.specs.WrittenText.{head_row, later_rows, note_rows}
 use Rattle.adjustment_895.proofs.WrittenBack.{asked}
 use Rattle.adjustment_895.proofs.writing.opened.Goals as goal

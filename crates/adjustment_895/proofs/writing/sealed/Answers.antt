@@ -2,11 +2,11 @@ use Rattle.std.proofs.Common.{ℕ, ◌≡◌, List, Result, subst}
 use Rattle.std.specs.Result.{IfOk}
 use Rattle.block_check.specs.Crc16.{crc_of}
 use Rattle.dsd_values.specs.Answers.{Gives, UnlessMemory}
-use Rattle.segments.specs.RowsWritten.{SetSoFar, after_writing}
+use Rattle.transaction_set.specs.RowsWritten.{SetSoFar, after_writing}
 use Rattle.segments.specs.declared.segment_write_fault.SegmentWriteFault.{SegmentWriteFault}
 use Rattle.segments.specs.declared.segment_write_fault.SegmentWriteFault.TheVariants.{Memory}
-use Rattle.segments.proofs.Rows.{passed_on}
-use Rattle.segments.proofs.SetRows.{AreOpened, are_opened, sealed_refused}
+use Rattle.transaction_set.proofs.Rows.{passed_on}
+use Rattle.transaction_set.proofs.SetRows.{AreOpened, are_opened, sealed_refused}
 use Rattle.adjustment_895.specs.WrittenText.{opened_rows}
 use Rattle.adjustment_895.proofs.writing.sealed.Goals as goal
 

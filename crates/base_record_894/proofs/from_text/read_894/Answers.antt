@@ -1,5 +1,5 @@
 use Rattle.std.proofs.Common.{refl, ◌∙◌}
-use Rattle.segments.proofs.Reading.{same_err}
+use Rattle.transaction_set.proofs.Reading.{same_err}
 use Rattle.base_record_894.proofs.OneRecord.{only_err, spelled, found_as, same_read}
 use Rattle.base_record_894.proofs.from_text.read_894.Goals as goal
 

@@ -1,8 +1,8 @@
 use Rattle.std.proofs.Common.{sym, inr}
 use Rattle.dsd_pricing.proofs.WholeTexts.{none_long, one_long}
-use Rattle.segments.specs.RowsWritten.{first_long}
+use Rattle.transaction_set.specs.RowsWritten.{first_long}
 use Rattle.segments.specs.SegmentWriting.{text_of}
-use Rattle.segments.proofs.SetRows.{rows_long, rows_text}
+use Rattle.transaction_set.proofs.SetRows.{rows_long, rows_text}
 use Rattle.base_record_894.specs.WrittenText.{rows_of}
 use Rattle.base_record_894.proofs.writing.write_rows.Goals as goal
 

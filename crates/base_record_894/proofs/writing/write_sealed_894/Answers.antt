@@ -1,9 +1,9 @@
 use Rattle.std.proofs.Common.{◌≤◌, ◌<◌, ◌∙◌, ℕ, Err, ap, inr, length, arith, sym}
 use Rattle.dsd_values.specs.declared.limits.TheConstants.{SET_BYTES}
 use Rattle.dsd_pricing.specs.declared.fault.WriteFault.TheVariants.{LongSet, Memory}
-use Rattle.segments.specs.RowsWritten.{first_long}
+use Rattle.transaction_set.specs.RowsWritten.{first_long}
 use Rattle.segments.specs.SegmentWriting.{text_of}
-use Rattle.segments.proofs.Rows.{passed_on, same_err}
+use Rattle.transaction_set.proofs.Rows.{passed_on, same_err}
 use Rattle.base_record_894.specs.WrittenText.{rows_of}
 use Rattle.dsd_pricing.proofs.WholeTexts.{never_priced, whole_long, whole_short}
 use Rattle.base_record_894.proofs.WrittenBack.{answer_read, priced_so, refused_so}

@@ -1,6 +1,6 @@
 use Rattle.std.proofs.Common.{List, subst, sym}
 use Rattle.dsd_values.specs.declared.line.Line.{Line}
-use Rattle.segments.specs.SoundLines.{AreSoundLines}
+use Rattle.transaction_set.specs.SoundLines.{AreSoundLines}
 use Rattle.adjustment_895.proofs.Made.{answer_lines}
 use Rattle.book_trace.proofs.calls.signed.Goals as goal
 

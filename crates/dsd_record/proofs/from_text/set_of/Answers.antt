@@ -1,5 +1,5 @@
 use Rattle.std.proofs.Common.{refl, sym}
-use Rattle.segments.proofs.Reading.{same_err}
+use Rattle.transaction_set.proofs.Reading.{same_err}
 use Rattle.dsd_record.specs.declared.set_view.SetView.TheVariants as sets
 use Rattle.dsd_record.proofs.ReadOnce.{set_in_is, sized}
 use Rattle.dsd_record.proofs.Sets.{answer_only, base_only, one}

@@ -2,7 +2,7 @@ use Rattle.std.proofs.Common.{ℕ, Ok, Option, refl, sym, ◌∙◌, ap, subst, 
 use Rattle.std.specs.Prelude.{IfSome}
 use Rattle.segments.specs.SegmentSpelling.{IsFront}
 use Rattle.segments.specs.Views.{Seg}
-use Rattle.segments.proofs.Reading.{bytes_some}
+use Rattle.segments.proofs.Spelled.{bytes_some}
 use Rattle.dxs_envelope.specs.FirstFault.{Between, Inside, told_left}
 use Rattle.dxs_envelope.specs.SetsLeft.{IsAt}
 use Rattle.dxs_envelope.proofs.Steps.{end_tells, fault_tells, moved, none_left, nothing_tells, refuse_tells, same_err, segment_ok, set_up_to, start_tells, trailer_tells, wrong_tells}

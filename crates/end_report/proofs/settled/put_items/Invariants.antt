@@ -1,7 +1,7 @@
 use Rattle.std.proofs.Common.{◌≡◌, ◌++◌, drop}
 use Rattle.std.specs.Prelude.{All}
 use Rattle.std.specs.List.{flat_map}
-use Rattle.segments.specs.Extras.{HasExtras}
+use Rattle.transaction_set.specs.Extras.{HasExtras}
 use Rattle.end_report.specs.Reports.{item_line}
 use Rattle.end_report.proofs.settled.put_items.Given as goal
 

@@ -1,7 +1,7 @@
 use Rattle.std.proofs.Common.{◌<◌, ◌≤◌, ◌^◌, arith, subst}
 use Rattle.dsd_values.specs.declared.cents.TheConstants.Cents.{MAX as MOST_CENTS}
 use Rattle.dsd_values.specs.declared.level.TheConstants.Level.{MAX as HIGHEST}
-use Rattle.segments.specs.SoundLines.{IsPlainNumber, IsPlainWord}
+use Rattle.transaction_set.specs.SoundLines.{IsPlainNumber, IsPlainWord}
 use Rattle.adjustment_895.specs.Making.{IsPlainHead}
 use Rattle.adjustment_895.proofs.Made.{made_answer}
 use Rattle.adjustment_895.proofs.answer.Answer895.new.Goals as goal

@@ -3,9 +3,9 @@ use Rattle.std.proofs.lemmas.List.Elements.{All-weaker}
 use Rattle.dsd_pricing.specs.Pricing.{ArePriced}
 use Rattle.dsd_values.specs.declared.extra.Extra.{Extra}
 use Rattle.dsd_values.specs.declared.line.Line.{Line}
-use Rattle.segments.specs.Extras.{HasExtras}
-use Rattle.segments.specs.SoundLines.{IsSoundLine}
-use Rattle.segments.proofs.Sounding.{line_behind}
+use Rattle.transaction_set.specs.Extras.{HasExtras}
+use Rattle.transaction_set.specs.SoundLines.{IsSoundLine}
+use Rattle.transaction_set.proofs.Sounding.{line_behind}
 use Rattle.base_record_894.proofs.Amounts.{are_priced}
 use Rattle.base_record_894.specs.Making.{record_made}
 use Rattle.base_record_894.specs.RecordText.{IsBase}

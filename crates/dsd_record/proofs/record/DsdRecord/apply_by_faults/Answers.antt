@@ -1,5 +1,5 @@
 use Rattle.std.proofs.Common.{rules}
-use Rattle.segments.proofs.Small.{none_then}
+use Rattle.transaction_set.proofs.Small.{none_then}
 use Rattle.dsd_record.proofs.Faults.{faultless, first_none}
 use Rattle.dsd_record.proofs.record.DsdRecord.apply_by_faults.Goals as goal
 

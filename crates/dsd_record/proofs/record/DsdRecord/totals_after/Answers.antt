@@ -2,7 +2,7 @@ use Rattle.std.proofs.Common.{◌≡◌, List, inr, rules, sym, ◌∙◌, ap, s
 use Rattle.std.specs.List.{All}
 use Rattle.indexmap.specs.IndexMap.{values}
 use Rattle.dsd_values.specs.declared.line.Line.{Line}
-use Rattle.segments.specs.Extras.{HasExtras}
+use Rattle.transaction_set.specs.Extras.{HasExtras}
 use Rattle.dsd_record.specs.ChangedPrice.{totals_within}
 use Rattle.dsd_record.specs.LineChanges.{changed}
 use Rattle.dsd_record.proofs.AfterChanges.{behind_after}

@@ -1,5 +1,5 @@
 use Rattle.std.proofs.Common.{subst}
-use Rattle.segments.specs.SoundLines.{AreSoundLines}
+use Rattle.transaction_set.specs.SoundLines.{AreSoundLines}
 use Rattle.handheld_core.specs.DraftRows.{Rows}
 use Rattle.handheld_core.proofs.Rowed.{lines_sound}
 use Rattle.handheld_core.proofs.rows.DraftRows.into_parts.Goals as goal

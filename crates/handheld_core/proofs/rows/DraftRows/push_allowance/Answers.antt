@@ -4,7 +4,7 @@ use Rattle.dsd_values.specs.declared.allowance.Allowance.{Allowance}
 use Rattle.dsd_values.specs.declared.extra.Extra.{Extra}
 use Rattle.dsd_values.specs.declared.extra.Extra.TheVariants.{Allow}
 use Rattle.dsd_values.specs.declared.line.Line.{Line}
-use Rattle.segments.specs.SoundLines.{IsPlainAllowance}
+use Rattle.transaction_set.specs.SoundLines.{IsPlainAllowance}
 use Rattle.handheld_core.specs.DraftRows.{AreRows, Rows, beside}
 use Rattle.handheld_core.proofs.Rowed.{allowance_more, pushed}
 use Rattle.handheld_core.proofs.rows.DraftRows.push_allowance.Goals as goal

@@ -1,6 +1,6 @@
 use Rattle.std.proofs.Common.{◌≡◌, ◌<◌, List, [], ◌∷◌, ◌++◌, false, length, subst, sym}
 use Rattle.dsd_values.specs.declared.line.Line.{Line}
-use Rattle.segments.specs.Reasons.{has_line}
+use Rattle.transaction_set.specs.Reasons.{has_line}
 use Rattle.handheld_core.specs.DraftRows.{AreRows, Rows}
 use Rattle.handheld_core.proofs.Rowed.{item_more, pushed}
 use Rattle.handheld_core.proofs.rows.DraftRows.push_item.Goals as goal

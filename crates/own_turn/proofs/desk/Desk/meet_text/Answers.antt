@@ -1,6 +1,6 @@
 use Rattle.std.proofs.Common.{Option, Result, Err, sym, ap, subst}
-use Rattle.segments.specs.Refusal.{Answers}
-use Rattle.segments.specs.declared.set_fault.SetFault.{SetFault}
+use Rattle.transaction_set.specs.Refusal.{Answers}
+use Rattle.transaction_set.specs.declared.set_fault.SetFault.{SetFault}
 use Rattle.dsd_record.specs.SetTexts.{set_refusal}
 use Rattle.dsd_record.specs.declared.set_view.SetView.{SetView}
 use Rattle.dsd_record.proofs.ReadOnce.{no_set_in}

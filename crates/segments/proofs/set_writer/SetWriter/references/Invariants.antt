@@ -1,6 +1,0 @@
-use Rattle.segments.specs.SetWriting.{kept_row}
-use Rattle.segments.proofs.Rows.{IsLeftOf}
-use Rattle.segments.proofs.set_writer.SetWriter.references.Given as goal
-
-abbrev pub invariant-loop-text : goal.invariant-loop-text
-invariant-loop-text l = IsLeftOf kept_row l.texts l.fn.self l.text-index l.writer

@@ -1,7 +1,0 @@
-use Rattle.segments.specs.declared.segment_write_fault.SegmentWriteFault.TheVariants.{Memory}
-use Rattle.segments.proofs.Rows.{passed_on}
-use Rattle.segments.proofs.SetRows.{text_refused}
-use Rattle.segments.proofs.set_writer.SetWriter.seal.Goals as goal
-
-pub returns-in_err-writer-clause-exact : goal.returns-in_err-writer-clause-exact
-returns-in_err-writer-clause-exact c = passed_on Memory _ _ _ _ c.from_residual.ensures (text_refused _ _ _ c.in_err-writer.was c.sealing.ensures)

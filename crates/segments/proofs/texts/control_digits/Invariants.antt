@@ -1,5 +1,0 @@
-use Rattle.std.proofs.Common.{◌≡◌, replicate}
-use Rattle.segments.proofs.texts.control_digits.Given as goal
-
-abbrev pub invariant-loop : goal.invariant-loop
-invariant-loop l = l.text.items ≡ replicate l.counter 48

@@ -1,0 +1,14 @@
+pub mod Tables
+pub mod Kinds
+pub mod Allowances
+pub mod Extras
+pub mod SoFar
+pub mod Reasons
+pub mod Refusal
+pub mod Grammar
+pub mod Numbers
+pub mod Closing
+pub mod Order
+pub mod SetWriting
+pub mod RowsWritten
+pub mod SoundLines
