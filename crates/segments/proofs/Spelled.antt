@@ -1,12 +1,13 @@
 -- What is lent is spelled at the front of what was left.
-use Rattle.std.proofs.Common.{◌≡◌, ℕ, ◌≤◌, Bool, true, false, cond, nat_eq, nat_lt, List, [], ◌∷◌, ◌++◌, length, take, drop, get_or, Result, Ok, Err, Option, Some, None, IfOk, IfSome, OnErr, inl, inr, refl, sym, ◌∙◌, ap, subst, arith, ◌+◌}
+use Rattle.std.proofs.Common.{◌≡◌, ℕ, ◌≤◌, Bool, true, false, cond, nat_eq, nat_lt, List, [], ◌∷◌, ◌++◌, length, take, drop, get_or, Result, Ok, Err, Option, Some, None, IfOk, IfSome, OnErr, inl, inr, refl, sym, ◌∙◌, ap, subst, arith, ◌+◌, ◌<◌, length-append}
+use Rattle.std.specs.List.{join_with_byte}
 use Rattle.std.proofs.lemmas.Bool.{cases_Bool}
 use Rattle.std.proofs.lemmas.Bool.Decides.{nat_tests}
 use Rattle.std.proofs.lemmas.List.{take-append-drop, length-take-le}
 use Rattle.segments.specs.declared.segment_fault.SegmentFault.{SegmentFault}
 use Rattle.segments.specs.declared.segment_fault.SegmentFault.TheVariants.{BadId, TooManyElements}
 use Rattle.segments.specs.Views.{Seg, Left}
-use Rattle.segments.specs.SegmentSpelling.{IsFront, is_id}
+use Rattle.segments.specs.SegmentSpelling.{IsFront, is_id, IsEnding, SpellsSegment}
 use Rattle.segments.specs.SegmentCut.{size_of, parts_of, with_parts, seg_at, with_size, first_of, some_of, next_of, behind, left_by, left_after}
 use Rattle.segments.specs.declared.segment.TheConstants.{SEGMENT_ELEMENTS}
 use Rattle.segments.proofs.Sized.{IsSized, sized}
