@@ -16,5 +16,4 @@ pub mod Bits
 pub mod Walk
 pub mod EmptyEnds
 pub mod Written
-pub mod GivenRows
 pub mod EndStars

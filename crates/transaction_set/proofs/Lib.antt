@@ -1,3 +1,4 @@
+pub mod GivenRows
 pub mod Small
 pub mod Faultless
 pub mod Apart

@@ -7,7 +7,7 @@ use Rattle.dsd_values.specs.declared.extra.Extra.TheVariants.{Allow, Note}
 use Rattle.dsd_values.specs.declared.limits.TheConstants.{MOST_ALLOWANCES}
 use Rattle.dsd_values.specs.declared.line.Line.{Line}
 use Rattle.segments.specs.Views.{Seg}
-use Rattle.segments.specs.Elements.{tail_from}
+use Rattle.segments.specs.Elements.{kept_text}
 use Rattle.transaction_set.specs.Allowances.{HasSize, IsAllowance, allowance_in}
 use Rattle.transaction_set.specs.declared.kind.Kind.{Kind}
 use Rattle.transaction_set.specs.declared.kind.Kind.TheVariants as kinds

@@ -2,7 +2,7 @@
 -- project's profile).
 use Rattle.std.specs.Prelude.{ℕ, Bool, true, false, ◌&&◌, List, codes, Option, Some, None, if◌then◌else◌}
 use Rattle.std.specs.Str.{bytes_eq}
-use Rattle.segments.specs.Views.{Seg, element_of}
+use Rattle.segments.specs.Views.{Seg, element_of, has_id}
 use Rattle.transaction_set.specs.declared.kind.Kind.{Kind}
 use Rattle.transaction_set.specs.declared.kind.Kind.TheVariants as kinds
 use Rattle.transaction_set.specs.declared.kind.Form.{Form}

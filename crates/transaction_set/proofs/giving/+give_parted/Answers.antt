@@ -2,7 +2,7 @@ use Rattle.std.proofs.Common.{rules, Bor, List, ℕ, [], ◌∙◌, ap, ◌∷�
 use Rattle.std.specs.List.{slice_split}
 use Rattle.std.specs.Option.{option_map_or}
 use Rattle.segments.specs.SegmentSpelling.{is_star}
-use Rattle.segments.proofs.GivenRows.{first_part, rest_asked}
+use Rattle.transaction_set.proofs.GivenRows.{first_part, rest_asked}
 use Rattle.transaction_set.proofs.giving.+give_parted.Goals as goal
 
 pub element-requires-clause-characters : goal.element-requires-clause-characters

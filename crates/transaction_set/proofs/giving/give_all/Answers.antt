@@ -1,4 +1,4 @@
-use Rattle.segments.proofs.GivenRows.{slice_given, slice_part}
+use Rattle.transaction_set.proofs.GivenRows.{slice_given, slice_part}
 use Rattle.transaction_set.proofs.giving.give_all.Goals as goal
 
 pub element-requires-clause-characters : goal.element-requires-clause-characters

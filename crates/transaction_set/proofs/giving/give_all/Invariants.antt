@@ -1,5 +1,5 @@
 use Rattle.std.proofs.Common.{map}
-use Rattle.segments.proofs.GivenRows.{IsGivenTo}
+use Rattle.transaction_set.proofs.GivenRows.{IsGivenTo}
 use Rattle.transaction_set.proofs.giving.give_all.Given as goal
 
 abbrev pub invariant-loop-element : goal.invariant-loop-element
