@@ -1,6 +1,6 @@
 //! Laws of the cut of a text into its segments.
 
-ghost use Rattle.std.specs.Prelude.{All, List, None, Some, ℕ, ◌↔◌, ◌≡◌};
+ghost use Rattle.std.specs.Prelude.{All, List, None, ℕ, ◌↔◌, ◌≡◌};
 ghost use Rattle.segments.specs.CutSpelling.{IsCut, StandsIn, StartsFrom};
 ghost use Rattle.segments.specs.SegmentCut.{Cut, cut_left, cut_of};
 ghost use Rattle.segments.specs.SegmentSpelling.{SpellsSegment, SpellsSegments};

@@ -1,10 +1,8 @@
 -- Segment after segment, what is left is refused as the whole text is.
-use Rattle.std.proofs.Common.{◌≡◌, ℕ, ◌+◌, ◌<◌, List, length, Result, Ok, Err, Some, None, Option, refl, sym, ap, ◌∙◌, subst, ◌++◌, inl, inr, true, false, arith, length-append}
-use Rattle.std.specs.List.{join_with_byte}
+use Rattle.std.proofs.Common.{◌≡◌, ℕ, ◌+◌, length, Result, Ok, Err, Some, None, Option, refl, sym, ap, ◌∙◌, subst, true, false}
 use Rattle.std.specs.Result.{IsErr, IsErrAnd}
 use Rattle.segments.specs.Views.{Seg, Left}
 use Rattle.segments.specs.SegmentCut.{Cut, cut_left, next_of, left_after}
-use Rattle.segments.specs.SegmentSpelling.{SpellsSegment, IsEnding}
 use Rattle.transaction_set.specs.Reasons.{Says}
 use Rattle.transaction_set.specs.Refusal.{Refusal, Judged, refused_at, ended_at, refusal_from, said_by, Answers}
 use Rattle.segments.specs.declared.segment_fault.SegmentFault.{SegmentFault}

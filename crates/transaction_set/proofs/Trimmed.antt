@@ -8,7 +8,6 @@ use Rattle.std.proofs.lemmas.List.Elements.{All-nil}
 use Rattle.dsd_values.specs.Behind.{with_extra}
 use Rattle.dsd_values.specs.declared.extra.Extra.{Extra}
 use Rattle.dsd_values.specs.declared.line.Line.{Line}
-use Rattle.segments.specs.Elements.{without_end_stars, or_star}
 use Rattle.transaction_set.specs.Extras.{HasExtras, IsSized}
 use Rattle.transaction_set.specs.Reasons.{has_line, last_extras}
 use Rattle.transaction_set.specs.Numbers.{HasRoom, IsTable}

@@ -2,7 +2,6 @@
 
 ghost use Rattle.std.specs.Prelude.{◌≡◌};
 ghost use Rattle.transaction_set.specs.Kinds.{is_start_of as starts_set, kind_of, set_code as code_of, head_id as head_of, reference_id as reference_of, item_id as item_of};
-ghost use Rattle.segments.specs.Views.{has_id as starts_with_id};
 
 use segments::{Segment, has_id};
 
