@@ -2,7 +2,7 @@
 
 ghost use Rattle.std.specs.Prelude.{◌≡◌, ◌+◌, ◌≤◌, IfOk, length};
 ghost use Rattle.std.specs.Option.{option_copied};
-ghost use Rattle.transaction_set.specs.declared.texts.TheConstants.{MOST_CONTROL_NUMBER as MOST_CONTROL};
+ghost use Rattle.segments.specs.declared.segment_writer.TheConstants.{MOST_CONTROL_NUMBER as MOST_CONTROL};
 ghost use Rattle.dsd_record.specs.declared.set_view.SetView.{SetView as Set};
 ghost use Rattle.dsd_record.specs.Applying.{applied as behind};
 ghost use Rattle.delivery_book.specs.Admissions.{Decides, as_no_set, as_unapplied, is_admitted, is_allowed, is_answer_allowed, is_base_allowed, is_stand_answered, is_turn as is_turn_of};

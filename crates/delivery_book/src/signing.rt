@@ -6,7 +6,7 @@ ghost use Rattle.dsd_values.specs.declared.level.TheConstants.Level.{MAX as HIGH
 ghost use Rattle.dsd_values.specs.declared.limits.TheConstants.{MOST_LINES};
 ghost use Rattle.dsd_values.specs.declared.quantity.TheConstants.{MOST_TOTAL_QUANTITY};
 ghost use Rattle.transaction_set.specs.SoundLines.{AreSoundLines};
-ghost use Rattle.transaction_set.specs.declared.texts.TheConstants.{MOST_CONTROL_NUMBER as MOST_CONTROL};
+ghost use Rattle.segments.specs.declared.segment_writer.TheConstants.{MOST_CONTROL_NUMBER as MOST_CONTROL};
 ghost use Rattle.base_record_894.specs.WrittenText.{written_of as base_written};
 ghost use Rattle.adjustment_895.specs.WrittenText.{written_of as answer_written};
 ghost use Rattle.dsd_record.specs.Applying.{Applies, applied as version_behind};
