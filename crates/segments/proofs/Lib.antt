@@ -18,3 +18,7 @@ pub mod EmptyEnds
 pub mod Written
 pub mod GivenRows
 pub mod EndStars
+pub mod Extended
+pub mod Streams
+pub mod Pieces
+pub mod StreamTexts

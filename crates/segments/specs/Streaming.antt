@@ -96,9 +96,17 @@ Stops old piece fault = MatchOption old.fault ((more : List ℕ) → next_of (ah
 
 -- ---- the end of the text
 
+-- where the segment that is begun starts
+abbrev pub begun_at : Left → Option ℕ
+begun_at begun = if length begun.rest == 0 then None else Some begun.place
+
+abbrev pub no_end : Option ℕ → Option SegmentFault
+no_end None = None
+no_end (Some start) = Some (NoEnd start)
+
 -- the fault that stands where the text ends here
 abbrev pub fault_at_end : Stream → Option SegmentFault
-fault_at_end stream = stream.fault or_else (if length stream.begun.rest == 0 then None else Some (NoEnd stream.begun.place))
+fault_at_end stream = stream.fault or_else no_end (begun_at stream.begun)
 
 -- a reader of the text answers that it ends there, or this fault
 abbrev pub EndsSo : {A : Type 0} → Result A SegmentFault → Left → Type 0

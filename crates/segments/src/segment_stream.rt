@@ -1,6 +1,6 @@
 ghost use Rattle.std.specs.Prelude.{[], ◌∷◌, ◌++◌, Bool, Err, IfErr, IfOk, MatchOption, None, Ok, OnOk, Some, drop, is_some, length, ℕ, ◌+◌, ◌<◌, ◌^◌, ◌≡◌, ◌≤◌};
 ghost use Rattle.segments.specs.SegmentCut.{next_of};
-ghost use Rattle.segments.specs.Streaming.{Decides, EndsSo, IsOpen, JudgesOn, Stops, Takes, after_piece, ended_by, fault_at_end, lasting as lasting_fault, reached, stream_start, taken_by, without_told};
+ghost use Rattle.segments.specs.Streaming.{Decides, EndsSo, IsOpen, JudgesOn, Stops, Takes, after_piece, begun_at, ended_by, fault_at_end, lasting as lasting_fault, reached, stream_start, taken_by, without_told};
 ghost use Rattle.segments.specs.Views.{Left, Seg};
 ghost use Rattle.segments.specs.declared.segment_fault.SegmentFault.{SegmentFault};
 
@@ -97,15 +97,27 @@ impl SegmentStream {
 
         // So a reader of the text ends here.
         ensures over { self.now.fault ≡ None → EndsSo result self.now.begun }
-        ensures open { IsOpen self.now.begun }
+        ensures waits { IsOpen self.now.begun }
     {
+        let begun = self.begun();
         if let Some(fault) = self.fault {
             return Err(fault);
         }
-        if !self.whole && !self.held.is_empty() {
-            return Err(SegmentFault::NoEnd(self.place));
+        match begun {
+            Some(start) => Err(SegmentFault::NoEnd(start)),
+            None => Ok(()),
         }
-        Ok(())
+    }
+
+    /// Where the segment that is begun starts.
+    fn begun(&self) -> Option<usize>
+        ensures value { result ≡ begun_at self.now.begun }
+        ensures waits { IsOpen self.now.begun }
+    {
+        if self.whole || self.held.is_empty() {
+            return None;
+        }
+        Some(self.place)
     }
 
     /// The place of the byte that comes next.
@@ -119,7 +131,7 @@ impl SegmentStream {
         requires placed { reached self.old + length piece.now < 2 ^ 64 }
         ensures left { self.new ≡ after_piece self.old piece.now }
         ensures answer { result ≡ taken_by self.old self.new }
-        ensures open { IsOpen self.old.begun }
+        ensures waits { IsOpen self.old.begun }
     {
         self.let_go();
         if let Some(fault) = self.fault {
@@ -131,7 +143,7 @@ impl SegmentStream {
     /// Lends the segment that ended no more.
     fn let_go(&mut self)
         ensures value { self.new ≡ without_told self.old }
-        ensures open { IsOpen self.old.begun }
+        ensures waits { IsOpen self.old.begun }
     {
         if self.whole {
             self.place += self.held.len();
@@ -168,7 +180,7 @@ fn judge_on(
     ends: &mut PartEnds,
     piece: &[u8],
 ) -> Result<bool, SegmentFault>
-    requires open { IsOpen (record { rest = held.old.items; place = place }) }
+    requires waits { IsOpen (record { rest = held.old.items; place = place }) }
     requires placed { place + length held.old.items + length piece.now < 2 ^ 64 }
     ensures { JudgesOn place held.old.items piece.now held.new.items ends.new.items result }
 {
