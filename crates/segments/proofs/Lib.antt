@@ -22,3 +22,4 @@ pub mod Extended
 pub mod Streams
 pub mod Pieces
 pub mod StreamTexts
+pub mod PieceBytes

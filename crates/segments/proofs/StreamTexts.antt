@@ -1,5 +1,5 @@
 -- A whole text, taken by a stream of segments.
-use Rattle.std.proofs.Common.{◌≡◌, ◌⊎◌, ℕ, ◌+◌, ◌-◌, ◌<◌, ◌≤◌, Bool, true, false, is_some, List, [], ◌∷◌, ◌++◌, length, take, drop, Result, Ok, Err, Option, Some, None, inl, inr, refl, sym, ◌∙◌, ap, subst, arith, append_assoc, append-nil, length-append}
+use Rattle.std.proofs.Common.{◌≡◌, ◌⊎◌, ℕ, ◌+◌, ◌-◌, ◌<◌, ◌≤◌, ◌==◌, if◌then◌else◌, Bool, true, false, is_some, List, [], ◌∷◌, ◌++◌, length, take, drop, Result, Ok, Err, Option, Some, None, inl, inr, refl, sym, ◌∙◌, ap, subst, arith, append_assoc, append-nil, length-append}
 use Rattle.std.proofs.lemmas.Bool.Decides.{nat_tests}
 use Rattle.std.proofs.lemmas.List.{drop_all, drop-append-le, take-append-drop}
 use Rattle.segments.specs.declared.segment_fault.SegmentFault.{SegmentFault}
@@ -50,7 +50,7 @@ module _ (s : Streamed) (size : ℕ) (waits : IsOpen s.stream.begun) where
       let none : new.told ≡ None = ap (λ (t : Stream). t.told) is in
       ap (λ (f : Option SegmentFault). record { segments = s.segments ++ (cut_or f (cut_left (ahead s.stream.begun s.more))).segments; fault = (cut_or f (cut_left (ahead s.stream.begun s.more))).fault }) e
       ∙ sym (ap (λ (f : Option SegmentFault). record { segments = with_told s.segments new.told ++ (cut_or f (cut_left (ahead new.begun (drop taken s.more)))).segments; fault = (cut_or f (cut_left (ahead new.begun (drop taken s.more)))).fault }) known
-        ∙ ap (λ (t : Option Seg). record { segments = with_told s.segments t ++ []; fault = Some fault }) none)
+      ∙ ap (λ (t : Option Seg). record { segments = with_told s.segments t ++ []; fault = Some fault }) none)
 
   -- a fault is answered
   same_stopped : (fault : SegmentFault) → s.stream.fault ≡ None → new.fault ≡ Some fault → all_of s ≡ all_of (one_call size s)
@@ -62,7 +62,7 @@ module _ (s : Streamed) (size : ℕ) (waits : IsOpen s.stream.begun) where
       ap (λ (f : Option SegmentFault). record { segments = s.segments ++ (cut_or f (cut_left (ahead s.stream.begun s.more))).segments; fault = (cut_or f (cut_left (ahead s.stream.begun s.more))).fault }) sound
       ∙ ap (λ (c : Cut). record { segments = s.segments ++ c.segments; fault = c.fault }) (step_fault (ahead s.stream.begun s.more) fault read_all)
       ∙ sym (ap (λ (f : Option SegmentFault). record { segments = with_told s.segments new.told ++ (cut_or f (cut_left (ahead new.begun (drop taken s.more)))).segments; fault = (cut_or f (cut_left (ahead new.begun (drop taken s.more)))).fault }) fails
-        ∙ ap (λ (t : Option Seg). record { segments = with_told s.segments t ++ []; fault = Some fault }) none)
+      ∙ ap (λ (t : Option Seg). record { segments = with_told s.segments t ++ []; fault = Some fault }) none)
     where
       stops_so : (old : Stream) (piece : List ℕ) (fault : SegmentFault) → old.fault ≡ None → Stops old piece fault → (more : List ℕ) → next_of (ahead old.begun (piece ++ more)) ≡ Err fault
       stops_so old piece fault sound h = rw sound at h
@@ -73,8 +73,8 @@ module _ (s : Streamed) (size : ℕ) (waits : IsOpen s.stream.begun) where
       let t : Takes s.stream new piece taken = (subst (Told s.stream new piece) (taken_from s.stream new (taken_by s.stream new) goes refl) told).0 in
       let rest : drop taken piece ++ drop size s.more ≡ drop taken s.more = sym (drop-append-le taken piece (drop size s.more) t.inside) ∙ ap (drop taken) whole in
       let moves : MovesOn new.told (ahead s.stream.begun s.more) (ahead new.begun (drop taken s.more)) =
-          subst (λ (l : List ℕ). MovesOn new.told (ahead s.stream.begun s.more) (ahead new.begun l)) rest
-          (subst (λ (l : List ℕ). MovesOn new.told (ahead s.stream.begun l) (ahead new.begun (drop taken piece ++ drop size s.more))) whole (t.moves (drop size s.more))) in
+      subst (λ (l : List ℕ). MovesOn new.told (ahead s.stream.begun s.more) (ahead new.begun l)) rest
+      (subst (λ (l : List ℕ). MovesOn new.told (ahead s.stream.begun l) (ahead new.begun (drop taken piece ++ drop size s.more))) whole (t.moves (drop size s.more))) in
       ap (λ (f : Option SegmentFault). record { segments = s.segments ++ (cut_or f (cut_left (ahead s.stream.begun s.more))).segments; fault = (cut_or f (cut_left (ahead s.stream.begun s.more))).fault }) sound
       ∙ moved_cut s.segments new.told (ahead s.stream.begun s.more) (ahead new.begun (drop taken s.more)) moves
       ∙ sym (ap (λ (f : Option SegmentFault). record { segments = with_told s.segments new.told ++ (cut_or f (cut_left (ahead new.begun (drop taken s.more)))).segments; fault = (cut_or f (cut_left (ahead new.begun (drop taken s.more)))).fault }) goes)
@@ -102,16 +102,18 @@ text_told text sizes = (all_calls sizes (unread text) (nothing_open 0)).0
 
 -- ---- the end
 
+no_end_by : (rest : List ℕ) (place : ℕ) → next_of (record { rest = rest; place = place }) ≡ Err (NoEnd place)
+    → (let c : Cut = record { segments = []; fault = Some (NoEnd place) } in c) ≡ record { segments = []; fault = no_end (begun_at (record { rest = rest; place = place })) }
+unfolding next_of
+no_end_by [] place e = let no : Ok None ≡ Err (NoEnd place) = e in cc
+no_end_by (byte ∷ rest) place e =
+    let some : (length (byte ∷ rest) == 0) ≡ false = grind (arith, nat_tests) in
+    ap (λ (test : Bool). record { segments = []; fault = no_end (if test then None else Some place) }) (sym some)
+
 cut_waits : (begun : Left) → IsOpen begun → cut_left begun ≡ record { segments = []; fault = no_end (begun_at begun) }
 cut_waits begun (inl none) =
     step_end begun none ∙ ap (λ (l : List ℕ). record { segments = []; fault = no_end (begun_at (record { rest = l; place = begun.place })) }) (sym (end_of-next begun none))
-cut_waits begun (inr waits) = step_fault begun (NoEnd begun.place) waits ∙ by_rest begun.rest begun.place waits
-  where
-    by_rest : (rest : List ℕ) (place : ℕ) → next_of (record { rest = rest; place = place }) ≡ Err (NoEnd place)
-        → (let c : Cut = record { segments = []; fault = Some (NoEnd place) } in c) ≡ record { segments = []; fault = no_end (begun_at (record { rest = rest; place = place })) }
-    unfolding next_of
-    by_rest [] place e = let no : Ok None ≡ Err (NoEnd place) = e in cc
-    by_rest (byte ∷ rest) place e = refl
+cut_waits begun (inr waits) = step_fault begun (NoEnd begun.place) waits ∙ no_end_by begun.rest begun.place waits
 
 ended : (s : Streamed) → IsOpen s.stream.begun → (s.more ≡ []) ⊎ (is_some s.stream.fault ≡ true) → cut_ahead s ≡ record { segments = []; fault = fault_at_end s.stream }
 ended s waits over = by_fault s.stream.fault over
