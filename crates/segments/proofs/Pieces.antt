@@ -18,7 +18,7 @@ use Rattle.segments.proofs.Complete.{some_left}
 use Rattle.segments.proofs.Extended.{fault_more, lasting_is, no_end_at, open_shorter, segment_more}
 use Rattle.segments.proofs.Refused.{fault_of-next, next_of-first}
 use Rattle.segments.proofs.Spelled.{bytes_some, end_of-next, next_of-end}
-use Rattle.segments.proofs.Streams.{after_heard, fault_is, heard_open, untold}
+use Rattle.segments.proofs.Streams.{after_heard, fault_is, heard_open, nothing_open, untold}
 
 -- ---- an answer at the front of what is held, and at what is held with the whole piece
 
@@ -134,6 +134,39 @@ module _ (place : ℕ) (old piece front held : List ℕ) (joined : held ≡ old 
                   omega (arith, no)
             ]
       ]
+
+-- ---- where nothing was held
+
+module _ (place : ℕ) (piece : List ℕ) where
+  all_begins : piece ≡ piece ++ drop (length piece) piece
+  all_begins = sym (ap (λ (l : List ℕ). piece ++ l) (drop_all (length piece) piece (omega arith)) ∙ append-nil piece)
+
+  pub first_ends : (size : ℕ) (ends new : List ℕ) → IsJudged place piece ends size → new ≡ take size piece → JudgesOn place [] piece new ends (Ok true)
+  first_ends size ends new judged is = ends_there place [] piece piece piece refl all_begins size ends new (nothing_open place) judged is
+
+  pub first_fails : (fault stands : SegmentFault) (new ends : List ℕ) → first_of place piece ≡ Err fault → lasting fault ≡ Some stands → new ≡ [] → JudgesOn place [] piece new ends (Err stands)
+  first_fails fault stands new ends e lasts none = fails_there place [] piece piece piece refl all_begins fault stands new ends e lasts none
+
+  pub first_waits : (fault : SegmentFault) → first_of place piece ≡ Err fault → lasting fault ≡ None → IsOpen (record { rest = piece; place = place })
+  first_waits fault e lasts = elim (cases_eq (length piece) 0) [
+    | inl none ↦ inl (next_of-end (record { rest = piece; place = place }) (nothing piece none))
+    | inr some ↦ no_end_at (record { rest = piece; place = place }) fault lasts (next_of-first (record { rest = piece; place = place }) fault (omega arith) e)
+  ]
+    where
+      nothing : (l : List ℕ) → length l ≡ 0 → l ≡ []
+      nothing [] e = refl
+      nothing (byte ∷ l) e = absurd (omega arith)
+
+  pub first_fits : (fault : SegmentFault) → first_of place piece ≡ Err fault → lasting fault ≡ None → length piece ≤ SEGMENT_BYTES
+  first_fits fault e lasts = by_waiting (first_waits fault e lasts)
+    where
+      by_waiting : IsOpen (record { rest = piece; place = place }) → length piece ≤ SEGMENT_BYTES
+      by_waiting (inl none) = omega (arith, ap length (end_of-next (record { rest = piece; place = place }) none))
+      by_waiting (inr waits) = (fault_of-next (record { rest = piece; place = place }) (NoEnd place) waits).1.short
+
+pub no_items : (l : List ℕ) → (length l == 0) ≡ true → l ≡ []
+no_items [] e = refl
+no_items (byte ∷ l) e = grind (arith, nat_tests)
 
 -- ---- the stream behind a piece
 

@@ -119,7 +119,7 @@ fn first_bytes(rest: &[u8]) -> &[u8]
 }
 
 /// The first bytes, of which there are so many.
-fn first(rest: &[u8], size: usize) -> &[u8]
+pub(crate) fn first(rest: &[u8], size: usize) -> &[u8]
     requires { size ≤ length rest.now }
     ensures { result.now ≡ take size rest.now }
 {

@@ -7,7 +7,7 @@ ghost use Rattle.segments.specs.declared.segment_fault.SegmentFault.{SegmentFaul
 use crate::segment::{SEGMENT_BYTES, Segment};
 use crate::segment_body::PartEnds;
 use crate::segment_fault::SegmentFault;
-use crate::segment_reader::judged_front;
+use crate::segment_reader::{first, judged_front};
 use arrayvec::ArrayVec;
 use memchr::memchr;
 use std::marker::Model;
@@ -184,8 +184,55 @@ fn judge_on(
     requires placed { place + length held.old.items + length piece.now < 2 ^ 64 }
     ensures { JudgesOn place held.old.items piece.now held.new.items ends.new.items result }
 {
-    hold(held, deciding(piece, DECIDING_BYTES - held.len()));
     ends.clear();
+    // Nearly every segment stands whole in one piece.
+    if held.is_empty() {
+        return judge_first(place, held, ends, piece);
+    }
+    judge_more(place, held, ends, piece)
+}
+
+/// Judges a segment where it stands in a piece, and holds it then.
+fn judge_first(
+    place: usize,
+    held: &mut HeldBytes,
+    ends: &mut PartEnds,
+    piece: &[u8],
+) -> Result<bool, SegmentFault>
+    requires nothing { held.old.items ≡ [] }
+    requires empty { ends.old.items ≡ [] }
+    requires placed { place + length piece.now < 2 ^ 64 }
+    ensures { JudgesOn place [] piece.now held.new.items ends.new.items result }
+{
+    match judged_front(place, piece, ends) {
+        Ok(size) => {
+            hold(held, first(piece, size));
+            Ok(true)
+        }
+        Err(fault) => match lasting(fault) {
+            Some(fault) => Err(fault),
+            None => {
+                hold(held, piece);
+                Ok(false)
+            }
+        },
+    }
+}
+
+/// Judges what is held with the bytes of a piece that decide.
+#[inline(never)]
+fn judge_more(
+    place: usize,
+    held: &mut HeldBytes,
+    ends: &mut PartEnds,
+    piece: &[u8],
+) -> Result<bool, SegmentFault>
+    requires waits { IsOpen (record { rest = held.old.items; place = place }) }
+    requires empty { ends.old.items ≡ [] }
+    requires placed { place + length held.old.items + length piece.now < 2 ^ 64 }
+    ensures { JudgesOn place held.old.items piece.now held.new.items ends.new.items result }
+{
+    hold(held, deciding(piece, DECIDING_BYTES - held.len()));
     match judged_front(place, held.as_slice(), ends) {
         Ok(size) => {
             held.truncate(size);

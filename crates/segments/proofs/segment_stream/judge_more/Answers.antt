@@ -2,7 +2,7 @@ use Rattle.std.proofs.Common.{rules, List, ℕ, ◌∙◌, sym, ap, subst, ◌++
 use Rattle.segments.specs.PartEnds.{IsJudged}
 use Rattle.segments.specs.SegmentCut.{first_of}
 use Rattle.segments.proofs.Pieces.{ends_there, fails_there, waits_there}
-use Rattle.segments.proofs.segment_stream.judge_on.Goals as goal
+use Rattle.segments.proofs.segment_stream.judge_more.Goals as goal
 
 pub returns-in-Ok : goal.returns-in-Ok
 returns-in-Ok c =
@@ -12,7 +12,7 @@ returns-in-Ok c =
 pub returns-in-Some : goal.returns-in-Some
 returns-in-Some c =
     let refused = ap (first_of c.args.place) (sym c.as_slice.ensures.value) ∙ c.in-Err.ensures.refused in
-    fails_there c.args.place c.args.held.now.items c.args.piece.now c.deciding.result.now c.hold.new.held.items c.hold.ensures c.deciding.ensures.front_of c.in-Err.fault c.in-Some.fault c.clear-in-Some.new.self.items c.judged_front.new.ends.items refused (sym c.lasting.ensures ∙ c.in-Some.is) c.clear-in-Some.ensures
+    fails_there c.args.place c.args.held.now.items c.args.piece.now c.deciding.result.now c.hold.new.held.items c.hold.ensures c.deciding.ensures.front_of c.in-Err.fault c.in-Some.fault c.clear.new.self.items c.judged_front.new.ends.items refused (sym c.lasting.ensures ∙ c.in-Some.is) c.clear.ensures
 
 pub returns-in-None : goal.returns-in-None
 returns-in-None c =
