@@ -1,8 +1,8 @@
 -- What a reader answers at a front of a text, where the text goes on.
-use Rattle.std.proofs.Common.{◌≡◌, ◌≢◌, ◌⊎◌, ℕ, ◌+◌, ◌<◌, ◌≤◌, List, [], ◌∷◌, ◌++◌, length, take, drop, Result, Ok, Err, Option, Some, None, inl, inr, refl, sym, ◌∙◌, ap, subst, arith, append_assoc, length-append}
+use Rattle.std.proofs.Common.{◌≡◌, ℕ, ◌+◌, ◌<◌, ◌≤◌, List, ◌∷◌, ◌++◌, length, take, drop, Ok, Err, Some, None, inl, inr, refl, sym, ◌∙◌, ap, append_assoc}
 use Rattle.std.proofs.lemmas.Bool.{cases_lt}
-use Rattle.std.proofs.lemmas.List.{take-append-drop, take-append-le, drop-append-le, length-take-le}
-use Rattle.std.proofs.Math.Seq.{take-append_seam, drop-append_seam}
+use Rattle.std.proofs.lemmas.List.{take-append-drop, take-append-le}
+use Rattle.std.proofs.Math.Seq.{take-append_seam}
 use Rattle.segments.specs.declared.segment_fault.SegmentFault.{SegmentFault}
 use Rattle.segments.specs.declared.segment_fault.SegmentFault.TheVariants.{NoEnd, BadByte, BadId, TooLong, TooManyElements}
 use Rattle.segments.specs.Views.{Seg, Left}

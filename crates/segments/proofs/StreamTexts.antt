@@ -1,16 +1,16 @@
 -- A whole text, taken by a stream of segments.
-use Rattle.std.proofs.Common.{◌≡◌, ◌⊎◌, ℕ, ◌+◌, ◌-◌, ◌<◌, ◌≤◌, ◌==◌, if◌then◌else◌, Bool, true, false, is_some, List, [], ◌∷◌, ◌++◌, length, take, drop, Result, Ok, Err, Option, Some, None, inl, inr, refl, sym, ◌∙◌, ap, subst, arith, append_assoc, append-nil, length-append}
+use Rattle.std.proofs.Common.{◌≡◌, ◌⊎◌, ℕ, ◌-◌, ◌==◌, if◌then◌else◌, Bool, true, false, is_some, List, [], ◌∷◌, ◌++◌, length, take, drop, Ok, Err, Option, Some, None, inl, inr, refl, sym, ◌∙◌, ap, subst, arith, append_assoc, append-nil}
 use Rattle.std.proofs.lemmas.Bool.Decides.{nat_tests}
-use Rattle.std.proofs.lemmas.List.{drop_all, drop-append-le, take-append-drop}
+use Rattle.std.proofs.lemmas.List.{drop-append-le, take-append-drop}
 use Rattle.segments.specs.declared.segment_fault.SegmentFault.{SegmentFault}
 use Rattle.segments.specs.declared.segment_fault.SegmentFault.TheVariants.{NoEnd}
 use Rattle.segments.specs.Elements.{◌or_else◌}
 use Rattle.segments.specs.Views.{Seg, Left}
-use Rattle.segments.specs.SegmentCut.{Cut, cut_left, cut_of, left_after, next_of}
-use Rattle.segments.specs.Streaming.{IsOpen, MovesOn, Stops, Stream, Streamed, Takes, after_piece, ahead, begun_at, begun_or, behind_call, cut_ahead, cut_or, each_call, fault_at_end, heard_as, lasting, no_end, one_call, push_each, pushed_on, reached, taken_by, unread, with_told, without_told}
+use Rattle.segments.specs.SegmentCut.{Cut, cut_left, cut_of, next_of}
+use Rattle.segments.specs.Streaming.{IsOpen, MovesOn, Stops, Stream, Streamed, Takes, after_piece, ahead, begun_at, cut_ahead, cut_or, each_call, fault_at_end, no_end, one_call, reached, taken_by, unread, with_told, without_told}
 use Rattle.segments.proofs.Spelled.{end_of-next}
 use Rattle.segments.proofs.Stepping.{step_end, step_fault, step_segment}
-use Rattle.segments.proofs.Streams.{Told, after_failed, after_heard, after_untold, err_from, failed_untold, heard_open, known_fault, nothing_open, taken_from, taken_so, waits_after}
+use Rattle.segments.proofs.Streams.{Told, after_failed, err_from, failed_untold, nothing_open, taken_from, taken_so, waits_after}
 
 -- ---- calls one after another
 

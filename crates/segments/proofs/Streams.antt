@@ -1,15 +1,13 @@
 -- One piece of a text, taken by a stream of segments.
-use Rattle.std.proofs.Common.{◌≡◌, ◌≢◌, ◌⊎◌, ℕ, ◌+◌, ◌-◌, ◌<◌, ◌≤◌, ◌^◌, Bool, true, false, not, is_some, List, [], ◌∷◌, ◌++◌, length, take, drop, Result, Ok, Err, Option, Some, None, IfOk, IfErr, inl, inr, refl, sym, ◌∙◌, ap, subst, arith, append_assoc, append-nil, length-append, add-zero}
-use Rattle.std.proofs.lemmas.List.{drop_all, drop-append-le, length-drop}
+use Rattle.std.proofs.Common.{◌≡◌, ℕ, ◌+◌, ◌-◌, ◌<◌, ◌≤◌, ◌^◌, Bool, true, false, is_some, List, [], ◌∷◌, ◌++◌, length, drop, Result, Ok, Err, Option, Some, None, IfOk, IfErr, inl, inr, refl, sym, ◌∙◌, ap, subst, arith, append_assoc, length-append, add-zero}
+use Rattle.std.proofs.lemmas.List.{drop_all, drop-append-le}
 use Rattle.std.proofs.Math.Seq.{drop-append-add}
 use Rattle.segments.specs.declared.segment_fault.SegmentFault.{SegmentFault}
-use Rattle.segments.specs.declared.segment_fault.SegmentFault.TheVariants.{NoEnd}
 use Rattle.segments.specs.Views.{Seg, Left}
-use Rattle.segments.specs.SegmentSpelling.{IsFront}
 use Rattle.segments.specs.SegmentCut.{next_of, left_after, behind, left_by}
 use Rattle.segments.specs.Streaming.{IsOpen, KeepsStream, MovesOn, Stops, Stream, Takes, after_piece, ahead, begun_or, ended_by, heard_as, lasting, reached, stream_of, taken_by, unless_failed, unless_fault, without_told}
 use Rattle.segments.proofs.Extended.{fault_more, lasting_is, no_end_at, open_shorter, segment_more}
-use Rattle.segments.proofs.Spelled.{end_of-next, next_front, next_of-end}
+use Rattle.segments.proofs.Spelled.{next_front, next_of-end}
 
 -- ---- what is kept
 

@@ -1,7 +1,5 @@
-ghost use Rattle.std.specs.Prelude.{[], ◌∷◌, ◌++◌, Bool, Err, IfErr, IfOk, MatchOption, None, Ok, OnOk, Some, drop, is_some, length, ℕ, ◌+◌, ◌<◌, ◌^◌, ◌≡◌, ◌≤◌};
-ghost use Rattle.segments.specs.SegmentCut.{next_of};
+ghost use Rattle.std.specs.Prelude.{[], ◌∷◌, ◌++◌, Err, IfErr, IfOk, MatchOption, None, Ok, Some, length, ◌+◌, ◌<◌, ◌^◌, ◌≡◌, ◌≤◌};
 ghost use Rattle.segments.specs.Streaming.{Decides, EndsSo, IsOpen, JudgesOn, Stops, Takes, after_piece, begun_at, ended_by, fault_at_end, lasting as lasting_fault, reached, stream_start, taken_by, without_told};
-ghost use Rattle.segments.specs.Views.{Left, Seg};
 ghost use Rattle.segments.specs.declared.segment_fault.SegmentFault.{SegmentFault};
 
 use crate::segment::{SEGMENT_BYTES, Segment};

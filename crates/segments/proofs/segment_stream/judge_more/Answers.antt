@@ -1,4 +1,4 @@
-use Rattle.std.proofs.Common.{rules, List, ℕ, ◌∙◌, sym, ap, subst, ◌++◌, ◌≡◌, drop, length, Err}
+use Rattle.std.proofs.Common.{rules, List, ℕ, ◌∙◌, sym, ap, subst}
 use Rattle.segments.specs.PartEnds.{IsJudged}
 use Rattle.segments.specs.SegmentCut.{first_of}
 use Rattle.segments.proofs.Pieces.{ends_there, fails_there, waits_there}

@@ -1,5 +1,5 @@
-use Rattle.std.proofs.Common.{◌∙◌, sym, ap, subst, arith, length, Bool, false, Result, Ok, Err, ℕ}
-use Rattle.segments.specs.Streaming.{KeepsStream, JudgesOn}
+use Rattle.std.proofs.Common.{sym, subst, arith, Bool}
+use Rattle.segments.specs.Streaming.{KeepsStream}
 use Rattle.segments.proofs.Streams.{empty_kept}
 use Rattle.segments.proofs.Pieces.{begun_self, heard_err, heard_ok}
 use Rattle.segments.proofs.segment_stream.SegmentStream.hear_on.Goals as goal
