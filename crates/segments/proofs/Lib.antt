@@ -17,3 +17,8 @@ pub mod Walk
 pub mod EmptyEnds
 pub mod Written
 pub mod EndStars
+pub mod Extended
+pub mod Streams
+pub mod Pieces
+pub mod StreamTexts
+pub mod PieceBytes

@@ -202,7 +202,7 @@ fault_of-next left fault h = elim (cases_eq (length left.rest) 0) [
 
 -- ---- whatever fault stands at the front is answered
 
-next_of-first : (left : Left) (fault : SegmentFault) → 0 < length left.rest → first_of left.place left.rest ≡ Err fault → next_of left ≡ Err fault
+pub next_of-first : (left : Left) (fault : SegmentFault) → 0 < length left.rest → first_of left.place left.rest ≡ Err fault → next_of left ≡ Err fault
 unfolding next_of
 next_of-first left fault some h = some_left left.rest (some_of (first_of left.place left.rest)) some ∙ ap some_of h
 

@@ -7,3 +7,4 @@ pub mod CutSpelling
 pub mod SegmentRefusal
 pub mod SegmentWriting
 pub mod SetUnits
+pub mod Streaming

@@ -8,8 +8,10 @@ mod segment;
 mod segment_body;
 mod segment_fault;
 mod segment_reader;
+mod segment_stream;
 mod segment_write_fault;
 mod segment_writer;
+mod stream_laws;
 mod writing_laws;
 
 pub use elements::{
@@ -22,6 +24,8 @@ pub use laws::{segments_are_those_spelled, segments_stand_in_their_text};
 pub use segment::{SEGMENT_BYTES, SEGMENT_ELEMENTS, Segment, between, has_id};
 pub use segment_fault::SegmentFault;
 pub use segment_reader::SegmentReader;
+pub use segment_stream::SegmentStream;
 pub use segment_write_fault::{SEGMENT_WRITTEN, SegmentWriteFault};
 pub use segment_writer::{MOST_CONTROL_NUMBER, SegmentWriter};
+pub use stream_laws::{a_stream_reads_its_text, pieces_are_their_bytes};
 pub use writing_laws::written_segments_are_read;

@@ -69,14 +69,29 @@ impl<'a> SegmentReader<'a> {
             return Ok(None);
         }
         let mut ends = PartEnds::new();
-        let length = body_at(first_bytes(self.rest), &mut ends);
-        let size = judged_size(self.place, self.rest, length, ends.as_slice())?;
+        let size = judged_front(self.place, self.rest, &mut ends)?;
         let start = self.place;
         let bytes = first(self.rest, size);
         self.rest = behind(self.rest, size);
         self.place += size;
         Ok(Some(Segment::new(start, bytes, ends)))
     }
+}
+
+/// How many bytes the segment at the front takes, with its terminator. The list is filled with the ends of its parts.
+#[inline(always)]
+pub(crate) fn judged_front(
+    start: usize,
+    rest: &[u8],
+    ends: &mut PartEnds,
+) -> Result<usize, SegmentFault>
+    requires empty { ends.old.items ≡ [] }
+    requires placed { start + length rest.now < 2 ^ 64 }
+    ensures right { IfOk result (λ size. IsJudged start rest.now ends.new.items size) }
+    ensures refused { IfErr result (λ fault. first_of start rest.now ≡ Err fault) }
+{
+    let length = body_at(first_bytes(rest), ends);
+    judged_size(start, rest, length, ends.as_slice())
 }
 
 /// How many bytes the segment at the front takes, with its terminator, where so many of the first bytes stand before it
@@ -104,7 +119,7 @@ fn first_bytes(rest: &[u8]) -> &[u8]
 }
 
 /// The first bytes, of which there are so many.
-fn first(rest: &[u8], size: usize) -> &[u8]
+pub(crate) fn first(rest: &[u8], size: usize) -> &[u8]
     requires { size ≤ length rest.now }
     ensures { result.now ≡ take size rest.now }
 {
