@@ -88,3 +88,5 @@ pub mod SessionsGrown
 pub mod SpokenSince
 pub mod SessionTalks
 pub mod CoresRight
+pub mod QuietTurns
+pub mod QuietSessions

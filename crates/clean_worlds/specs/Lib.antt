@@ -8,3 +8,4 @@ pub mod Faultless
 pub mod CleanWorlds
 pub mod LeftLists
 pub mod CleanEndings
+pub mod Foreseen

@@ -1,0 +1,31 @@
+-- What own turns speak and add from here on, told before they are taken: from both lists and both choosers alone.
+use Rattle.std.specs.Prelude.{◌≤◌, ℕ, ◌+◌, List, [], ◌∷◌, length}
+use Rattle.dsd_journal.specs.JournalImage.{gate_place}
+use Rattle.dsd_journal.specs.declared.entry.Entry.{Entry}
+use Rattle.dsd_journal.specs.declared.limits.TheConstants.{JOURNAL_BYTES}
+use Rattle.own_turn.specs.DueSets.{DueSet}
+use Rattle.own_turn.specs.NextEntry.{TurnAddsNext}
+use Rattle.clean_sessions.specs.SeatTurns.{AreOwnTurns, Seat, at_desk}
+use Rattle.clean_sessions.specs.SinceLast.{blocks_spoken_in}
+
+-- With so many blocks an end is polled at most 60 + 24 * 1,299 times. Each poll hears at most 64 bytes, and these are too few to be noise.
+abbrev pub most_blocks : ℕ
+most_blocks = 1_299
+
+-- Own turns in turn, however many, speak no more blocks than these, each set cut alone and counted as often as it is spoken.
+abbrev pub SpeakAtMost : ℕ → Seat → Seat → List ℕ → Type 0
+SpeakAtMost most near far text = (turns : List (List DueSet)) → AreOwnTurns turns near far text → blocks_spoken_in turns ≤ most
+
+-- Whatever entry the own turn of this end adds next, which has heard this text, the journal has room for it.
+abbrev pub HasPlace : Seat → List ℕ → Type 0
+HasPlace seat text =
+    (entries : List Entry) (entry : Entry) → TurnAddsNext seat.header.role seat.chooser text seat.desk entries entry → gate_place entries + 7 + length entry.payload ≤ JOURNAL_BYTES
+
+-- so it is of the own turn that comes behind these
+abbrev pub HasPlaceBehind : (turns : List (List DueSet)) → (near far : Seat) → (text : List ℕ) → AreOwnTurns turns near far text → Type 0
+HasPlaceBehind [] near far text t = HasPlace near text
+HasPlaceBehind (first ∷ more) near far text t = HasPlaceBehind more far (at_desk near t.0) t.1 t.4
+
+-- Behind own turns in turn, however many, the next one finds room.
+abbrev pub HaveRoom : Seat → Seat → List ℕ → Type 0
+HaveRoom near far text = (turns : List (List DueSet)) → (t : AreOwnTurns turns near far text) → HasPlaceBehind turns near far text t
