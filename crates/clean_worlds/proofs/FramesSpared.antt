@@ -65,7 +65,7 @@ module _ (chooser : Chooser) (frame : FrameShape) (spoken : IsSpoken frame) (sta
 
   only_frame : FindsPlace → (n : ℕ) → FramesFull chooser (with_begun standing []) (frame ∷ []) n → ⊥
   only_frame place n (inl full) = place n full
-  only_frame place n (inr more) = more.2
+  only_frame place n (inr more) = more.1.1
 
   -- the last one makes the turn of the frame
   last_place : FindsPlace → (front : List ℕ) (b : ℕ) (more : List ℕ) → spelling frame ≡ front ++ b ∷ more → standing.begun ≡ front → (n : ℕ) → HearsFull chooser standing (Piece (b ∷ more)) n → ⊥

@@ -27,9 +27,13 @@ use Rattle.clean_worlds.specs.WorldHalls.{BothCome, ShowsHall}
 use Rattle.clean_worlds.proofs.FramesSpared.{GoesSpared, frame_spared}
 use Rattle.clean_worlds.proofs.NotedParts.{come_parts}
 use Rattle.clean_worlds.proofs.RoundsClean.{one_waits, round_clean, round_hears, waits_not}
-use Rattle.clean_worlds.proofs.RoundsWell.{joined_well, well_none}
+use Rattle.clean_worlds.proofs.RoundsWell.{joined_well}
 use Rattle.clean_worlds.proofs.ScriptsKept.{each_role, heard_beside}
 use Rattle.clean_worlds.proofs.SessionPlayed.{none_runs}
+
+none_well : (noted : List Noted) → steps_of noted ≡ [] → GoWell noted
+none_well [] none = tt
+none_well (one ∷ noted) none = absurd (cc)
 
 -- These steps go well, and nothing armed is left behind them.
 pub record RoundSpared (noted : List Noted) (next : Scene) : Type 0 where
@@ -90,7 +94,7 @@ module _ (chooser : Role → Chooser) (header : Role → Header) (is : (role : R
       subst GoWell (sym p.parts) (joined_well p.front p.back one.well rest)
 
   rounds_spared : (rounds : ℕ) → RoundsGoWell rounds
-  rounds_spared zero near far hall scene next standing last state noted shows quietly (off, (none, same)) come calls spared work = well_none noted none
+  rounds_spared zero near far hall scene next standing last state noted shows quietly (off, (none, same)) come calls spared work = none_well noted none
   rounds_spared (suc rounds) near far hall scene next standing last state noted shows (inl ended, later) (on, both) come calls spared work = absurd (none_made near far hall scene standing shows ended on)
   rounds_spared (suc rounds) near far hall scene next standing last state noted shows (inr (frame, quietly), later) (on, both) come calls spared work =
       first_round rounds (λ n f h s x t l st no sh q r c ca sp w. rounds_spared rounds n f h s x t l st no sh q r c ca sp w) near far hall scene next standing last state noted shows frame quietly later both come calls spared work

@@ -85,7 +85,7 @@ module _ (chooser : Role → Chooser) (header : Role → Header) (are : (role : 
   none_heard : (bytes heard : List ℕ) → heard ≡ [] → bytes ++ heard ≡ bytes
   none_heard bytes heard none = ap (λ (l : List ℕ). bytes ++ l) none ∙ append-nil bytes
 
-  pub well_none : (noted : List Noted) → steps_of noted ≡ [] → GoWell noted
+  well_none : (noted : List Noted) → steps_of noted ≡ [] → GoWell noted
   well_none [] none = tt
   well_none (one ∷ noted) none = absurd (cc)
 
