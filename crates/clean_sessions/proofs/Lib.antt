@@ -90,3 +90,4 @@ pub mod SessionTalks
 pub mod CoresRight
 pub mod QuietTurns
 pub mod QuietSessions
+pub mod FewSpoken

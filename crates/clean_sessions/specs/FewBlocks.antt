@@ -1,12 +1,16 @@
 -- What own turns speak and add from here on, told before they are taken: from both lists and both choosers alone.
-use Rattle.std.specs.Prelude.{◌≤◌, ℕ, ◌+◌, List, [], ◌∷◌, length}
+use Rattle.std.specs.Prelude.{◌≤◌, ◌<◌, ℕ, ◌+◌, ◌*◌, Bool, List, [], ◌∷◌, length, map}
 use Rattle.dsd_journal.specs.JournalImage.{gate_place}
 use Rattle.dsd_journal.specs.declared.entry.Entry.{Entry}
 use Rattle.dsd_journal.specs.declared.limits.TheConstants.{JOURNAL_BYTES}
+use Rattle.dsd_end.specs.declared.fault.TheConstants.{NOISE_BYTES}
 use Rattle.own_turn.specs.DueSets.{DueSet}
 use Rattle.own_turn.specs.NextEntry.{TurnAddsNext}
+use Rattle.clean_sessions.specs.Halls.{Hall}
 use Rattle.clean_sessions.specs.SeatTurns.{AreOwnTurns, Seat, at_desk}
+use Rattle.clean_sessions.specs.Sessions.{Spoken, post_behind, turn_of}
 use Rattle.clean_sessions.specs.SinceLast.{blocks_spoken_in}
+use Rattle.clean_sessions.specs.Turns.{all_alone}
 
 -- With so many blocks an end is polled at most 60 + 24 * 1,299 times. Each poll hears at most 64 bytes, and these are too few to be noise.
 abbrev pub most_blocks : ℕ
@@ -29,3 +33,9 @@ HasPlaceBehind (first ∷ more) near far text t = HasPlaceBehind more far (at_de
 -- Behind own turns in turn, however many, the next one finds room.
 abbrev pub HaveRoom : Seat → Seat → List ℕ → Type 0
 HaveRoom near far text = (turns : List (List DueSet)) → (t : AreOwnTurns turns near far text) → HasPlaceBehind turns near far text t
+
+-- A session in which this was spoken had no more blocks than these, each end was polled at most 60 times and 24 times for each of them, and what it has heard is no noise.
+pub record SpendsFew (most : ℕ) (first : Spoken) (more : List Spoken) (new : Hall) : Type 0 where
+  pub blocks : all_alone (turn_of first ∷ map turn_of more) ≤ most
+  pub polls : (own : Bool) → (post_behind own more new).polls ≤ 60 + 24 * most
+  pub bytes : most ≤ most_blocks → (own : Bool) → (post_behind own more new).standing.heard < NOISE_BYTES

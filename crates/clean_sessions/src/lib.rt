@@ -56,7 +56,7 @@ pub use delivery_laws::{
 };
 pub use line_laws::{headers_pass, turns_pass};
 pub use poll_laws::turns_are_few;
-pub use quiet_laws::foretold_sessions_go_quietly;
+pub use quiet_laws::{foretold_sessions_go_quietly, foretold_sessions_spend_few};
 pub use talk_laws::{
     answers_ignore_checks, chosen_answers_are_signed_at_once, chosen_sets_may_be_signed,
     cores_ignore_checks, deliveries_are_asked_apart, lower_controls_can_be_written,
