@@ -1,5 +1,5 @@
 -- A clean event of which that was told before it goes well.
-use Rattle.std.proofs.Common.{◌≡◌, ℕ, Bool, false, List, [], ◌∷◌, ◌++◌, Option, refl, sym, ◌∙◌, ap, subst, append_assoc}
+use Rattle.std.proofs.Common.{◌≡◌, ℕ, Bool, false, List, [], ◌∷◌, ◌++◌, Option, refl, sym, ◌∙◌, ap, subst, append_assoc, arith}
 use Rattle.dsd_values.specs.declared.role.Role.{Role}
 use Rattle.dsd_values.specs.declared.role.Role.TheVariants.{Receiver, Supplier}
 use Rattle.dsd_record.specs.Choices.{Chooser}
@@ -10,7 +10,6 @@ use Rattle.dsd_journal.specs.declared.entry.Entry.{Entry}
 use Rattle.dsd_journal.specs.declared.header.Header.{Header}
 use Rattle.dsd_end.specs.Standings.{Standing}
 use Rattle.clean_sessions.specs.Beginnings.{opened}
-use Rattle.clean_sessions.specs.FewBlocks.{most_blocks}
 use Rattle.clean_sessions.proofs.QuietSessions.{session_quietly}
 use Rattle.cable_world.specs.Leaving.{state_after, state_behind}
 use Rattle.cable_world.specs.Living.{CallSo}
@@ -46,9 +45,9 @@ module _ (id other_id : List ℕ) (is_id : IsId id) (others : IsId other_id) (su
 
   -- ---- the event
 
-  pub clean_foreseen : (state : Role → State) (scene next : Scene) (before last : Role → Option Standing) (noted : List Noted) → RunningHear before scene → RunningWork scene → BothCome chooser header state before noted last
-      → CallSo (steps_of noted) → Plays Clean scene (steps_of noted) next → AreForeseen most_blocks id other_id supplier receiver state scene (steps_of noted) → GoWell noted
-  clean_foreseen state scene next before last noted hear work come calls plays free =
+  pub clean_foreseen : (most : ℕ) (state : Role → State) (scene next : Scene) (before last : Role → Option Standing) (noted : List Noted) → RunningHear before scene → RunningWork scene → BothCome chooser header state before noted last
+      → CallSo (steps_of noted) → Plays Clean scene (steps_of noted) next → AreForeseen most id other_id supplier receiver state scene (steps_of noted) → GoWell noted
+  clean_foreseen most state scene next before last noted hear work come calls plays free =
       let p = come_parts chooser header state before noted plays.first plays.rest last come calls plays.joined in
       let unplugs : Unplugs scene (steps_of p.front) plays.between = subst (λ (l : List WorldStep). Unplugs scene l plays.between) (sym p.is) plays.before in
       let one = unplugs_well chooser header state scene plays.between before p.mid p.front hear work free.spared p.come p.calls unplugs in
@@ -94,7 +93,7 @@ module _ (id other_id : List ℕ) (is_id : IsId id) (others : IsId other_id) (su
       let shows = hall_shown id other_id is_id others supplier receiver (at_second Supplier) (at_first Receiver) plays.between opens.between begun.between opens.first begun.first q.mid t.mid cut.waiting r s in
       let four = exchanges_spared chooser header are Receiver Supplier (opened id other_id supplier receiver s.opens.leaves.entries r.opens.leaves.entries) begun.between next t.mid last
       (λ (role : Role). state_after role (at_second role) begun.first) t.back shows
-      (session_quietly id other_id is_id others supplier receiver s.opens.leaves.entries r.opens.leaves.entries foreseen.blocks foreseen.room) (subst (λ (l : List WorldStep). Exchanges begun.between l next) (sym t.then_is) begun.behind)
+      (session_quietly id other_id is_id others supplier receiver s.opens.leaves.entries r.opens.leaves.entries (λ turns t. (let few = foreseen.blocks turns t in let within = foreseen.within in omega (arith, few, within))) foreseen.room) (subst (λ (l : List WorldStep). Exchanges begun.between l next) (sym t.then_is) begun.behind)
       t.come_then t.calls_then (each_role (λ (role : Role). IsSpared (side begun.between role).log) Receiver (subst (λ (x : Side). IsSpared x.log) (sym same) two.spared) three.spared)
       (each_role (λ (role : Role). WorksIfRunning (side begun.between role)) Receiver (subst WorksIfRunning (sym same) two.works) three.works) in
       subst GoWell (sym (p.parts ∙ ap (λ (l : List Noted). p.front ++ l) (q.parts ∙ ap (λ (l : List Noted). q.front ++ l) t.parts)))

@@ -43,3 +43,4 @@ pub mod SparedScripts
 pub mod FramesSpared
 pub mod RoundsSpared
 pub mod CleanForeseen
+pub mod Foretold

@@ -9,3 +9,4 @@ pub mod CleanWorlds
 pub mod LeftLists
 pub mod CleanEndings
 pub mod Foreseen
+pub mod Finishing
