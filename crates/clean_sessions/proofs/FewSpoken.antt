@@ -1,16 +1,15 @@
 -- A clean session speaks no more blocks than its own turns were foretold to speak.
-use Rattle.std.proofs.Common.{◌≡◌, ◌<◌, ◌≤◌, ◌+◌, ◌*◌, ℕ, Bool, List, [], ◌∷◌, map, ap, arith}
+use Rattle.std.proofs.Common.{◌≤◌, ℕ, List, [], ◌∷◌, map, ap, arith}
 use Rattle.std.specs.Prelude.{All}
 use Rattle.dsd_values.specs.declared.role.Role.TheVariants.{Supplier}
 use Rattle.base_record_894.specs.RecordText.{IsBase}
 use Rattle.dsd_journal.specs.declared.entry.Entry.{Entry}
 use Rattle.dsd_journal.specs.Headers.{IsId}
 use Rattle.dsd_record.specs.Choices.{Chooser}
-use Rattle.dsd_end.specs.declared.fault.TheConstants.{NOISE_BYTES}
 use Rattle.clean_sessions.specs.Beginnings.{IsCleanSession, receiver_header, seat_before, supplier_header}
 use Rattle.clean_sessions.specs.BlocksAlone.{blocks_alone}
 use Rattle.clean_sessions.specs.DeliveryStands.{AreBacked}
-use Rattle.clean_sessions.specs.FewBlocks.{SpeakAtMost, SpendsFew, most_blocks}
+use Rattle.clean_sessions.specs.FewBlocks.{SpeakAtMost, SpendsFew}
 use Rattle.clean_sessions.specs.Halls.{Hall}
 use Rattle.clean_sessions.specs.Sessions.{Spoken, turn_of}
 use Rattle.clean_sessions.specs.Turns.{all_alone}

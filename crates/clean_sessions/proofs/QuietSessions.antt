@@ -1,6 +1,5 @@
 -- A session whose own turns speak few blocks and find room goes quietly.
 use Rattle.std.proofs.Common.{◌≡◌, ◌≤◌, ◌<◌, ◌+◌, ◌*◌, ◌==◌, ◌&&◌, inl, inr, ℕ, zero, suc, Bool, true, false, List, [], ◌∷◌, length, refl, sym, ◌∙◌, ap, subst, arith}
-use Rattle.std.proofs.lemmas.Bool.Decides.{nat_tests}
 use Rattle.dsd_values.specs.declared.role.Role.TheVariants.{Supplier}
 use Rattle.dsd_journal.specs.declared.entry.Entry.{Entry}
 use Rattle.dsd_journal.specs.Headers.{IsId}
@@ -24,12 +23,12 @@ use Rattle.clean_sessions.specs.QuietHalls.{GoesQuietly, HearsQuietly}
 use Rattle.clean_sessions.specs.SeatTurns.{AreOwnTurns, Seat, at_desk}
 use Rattle.clean_sessions.specs.Sessions.{IsSpokenText, Spoken}
 use Rattle.clean_sessions.specs.SinceLast.{blocks_spoken_in}
-use Rattle.clean_sessions.proofs.BriefFrames.{AreBrief, IsBrief, enq_brief, eot_brief, load_brief}
+use Rattle.clean_sessions.proofs.BriefFrames.{IsBrief, enq_brief, eot_brief, load_brief}
 use Rattle.clean_sessions.proofs.BytesHeard.{IsHeardLow, headers_low, step_low, turn_low}
 use Rattle.clean_sessions.proofs.HallsWalked.{Says, StandsAs, begun, post_at, says_step, turn_taken}
 use Rattle.clean_sessions.proofs.HeadersPassed.{headers_pass}
 use Rattle.clean_sessions.proofs.LoadsCounted.{no_blocks}
-use Rattle.clean_sessions.proofs.QuietTurns.{IsBehind, Later, eot_quietly, eot_said, walks_quietly}
+use Rattle.clean_sessions.proofs.QuietTurns.{Later, eot_quietly, eot_said, walks_quietly}
 use Rattle.clean_sessions.proofs.SessionSeats.{same_seat, seat_of}
 use Rattle.clean_sessions.proofs.SessionsBegun.{first_brief, second_brief, texts_begun}
 use Rattle.clean_sessions.proofs.SessionsTaken.{gathered_sets, spoken_text}
@@ -228,8 +227,11 @@ module _ (id other : List ℕ) (is : IsId id) (others : IsId other) (supplier re
             let heard_low : a.near_heard ≤ 64 * a.near_now = (subst IsHeardLow a.is is_behind.low).near in
             let now = a.near_few in
             let within = is_behind.near_within in (
-              inr (Eot, subst (λ (h : Hall). HearsQuietly h Eot) (sym a.is) (eot_quietly start.far (post_at start.near (second_sent id other).owner a.far_heard a.far_now) (second_sent id other).hearer a.near_heard a.near_now 60 false
-                  (supplier_ready id other) [] refl pass.then_texts (λ none. room [] tt) eot_brief heard_low (omega (arith, now, within)) (omega arith))),
+              inr (
+                Eot,
+                subst (λ (h : Hall). HearsQuietly h Eot) (sym a.is) (eot_quietly start.far (post_at start.near (second_sent id other).owner a.far_heard a.far_now) (second_sent id other).hearer a.near_heard a.near_now 60 false
+                    (supplier_ready id other) [] refl pass.then_texts (λ none. room [] tt) eot_brief heard_low (omega (arith, now, within)) (omega arith)),
+              ),
               λ new four. texts_quietly left behind bids answered new one two is_behind.taken four,
             )
 
@@ -250,8 +252,11 @@ module _ (id other : List ℕ) (is : IsId id) (others : IsId other) (supplier re
             let within = is_behind.near_within in
             let far_now = a.far_few in
             let far_within = is_behind.far_within in (
-              inr (Eot, subst (λ (h : Hall). HearsQuietly h Eot) (sym a.is) (eot_said start.near (post_at start.far (first_sent id other).owner a.far_heard a.far_now) (first_sent id other).hearer (second_both id other).owner a.near_heard a.near_now
-                  12 Enq pass.then_bids eot_brief heard_low (omega (arith, now, within)) (omega arith))),
+              inr (
+                Eot,
+                subst (λ (h : Hall). HearsQuietly h Eot) (sym a.is) (eot_said start.near (post_at start.far (first_sent id other).owner a.far_heard a.far_now) (first_sent id other).hearer (second_both id other).owner a.near_heard a.near_now
+                    12 Enq pass.then_bids eot_brief heard_low (omega (arith, now, within)) (omega arith)),
+              ),
               λ bids two.
                   let b : Says start.near (post_at start.far (first_sent id other).owner a.far_heard a.far_now) (second_both id other).owner a.near_heard a.near_now 1 Enq bids =
                   says_step start.near (post_at start.far (first_sent id other).owner a.far_heard a.far_now) (first_sent id other).hearer (second_both id other).owner a.near_heard a.near_now 1 Eot Enq bids refl eot_brief pass.then_bids

@@ -1,11 +1,10 @@
 -- A turn with few blocks goes quietly, frame by frame.
-use Rattle.std.proofs.Common.{◌≡◌, ◌≤◌, ◌<◌, ◌+◌, ◌*◌, inl, inr, ℕ, zero, suc, Bool, true, false, List, [], ◌∷◌, length, take, drop, refl, sym, ◌∙◌, ap, subst, length-drop, arith}
+use Rattle.std.proofs.Common.{◌≡◌, ◌≤◌, ◌<◌, ◌+◌, ◌*◌, inr, ℕ, zero, suc, Bool, true, false, List, [], ◌∷◌, length, take, drop, refl, sym, ◌∙◌, ap, subst, length-drop, arith}
 use Rattle.std.specs.Prelude.{if◌then◌else◌}
 use Rattle.dex_line.specs.FrameShapes.{FrameShape, Eot}
 use Rattle.dex_line.specs.FrameSpelling.{spelling}
 use Rattle.dex_handshake.specs.LineTable.{Common, Line, LineStep, Finished, ends, hears, says, says_nothing}
 use Rattle.dex_handshake.specs.declared.session_end.SessionEnd.TheVariants.{Complete}
-use Rattle.dsd_journal.specs.declared.entry.Entry.{Entry}
 use Rattle.own_turn.specs.NextEntry.{TurnAddsNext}
 use Rattle.dsd_end.specs.FullTurns.{FrameFull}
 use Rattle.dsd_end.specs.Standings.{Standing, has_ended}

@@ -1,5 +1,5 @@
 -- Halls from which a session goes on without a fault: what an end hears is no noise, and its journal has room.
-use Rattle.std.specs.Prelude.{◌≡◌, ◌⊎◌, ◌<◌, ◌+◌, ℕ, zero, suc, true, false, List, [], ◌∷◌, length, ⊤}
+use Rattle.std.specs.Prelude.{◌≡◌, ◌⊎◌, ◌<◌, ◌+◌, ℕ, zero, suc, true, false, [], ◌∷◌, length, ⊤}
 use Rattle.dex_line.specs.FrameShapes.{FrameShape}
 use Rattle.dex_line.specs.FrameSpelling.{spelling}
 use Rattle.dsd_end.specs.FullTurns.{FrameFull}

@@ -6,7 +6,6 @@ use Rattle.dsd_record.specs.Choices.{Chooser}
 use Rattle.dsd_station.specs.Replayed.{State}
 use Rattle.dsd_journal.specs.Headers.{IsHeader, IsId}
 use Rattle.dsd_journal.specs.JournalImage.{Holds}
-use Rattle.dsd_journal.specs.declared.entry.Entry.{Entry}
 use Rattle.dsd_journal.specs.declared.header.Header.{Header}
 use Rattle.dsd_end.specs.Standings.{Standing}
 use Rattle.clean_sessions.specs.Beginnings.{opened}

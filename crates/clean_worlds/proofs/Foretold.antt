@@ -1,20 +1,18 @@
 -- A script whose clean event was foretold to go well finishes.
-use Rattle.std.proofs.Common.{◌≡◌, ◌≤◌, ◌<◌, ◌+◌, ◌*◌, ℕ, List, [], ◌∷◌, ◌++◌, length, refl, sym, subst, length-append, arith}
-use Rattle.std.specs.Prelude.{All, is_some, true}
+use Rattle.std.proofs.Common.{◌≡◌, ◌≤◌, ◌<◌, ℕ, List, [], ◌∷◌, length, refl, sym, subst, length-append, arith}
+use Rattle.std.specs.Prelude.{is_some, true}
 use Rattle.std.proofs.lemmas.List.Elements.{All-nil}
 use Rattle.dsd_values.specs.declared.role.Role.{Role}
 use Rattle.dsd_values.specs.declared.role.Role.TheVariants.{Receiver, Supplier}
 use Rattle.base_record_894.specs.RecordText.{IsBase}
 use Rattle.dsd_record.specs.Choices.{Chooser}
 use Rattle.dsd_station.specs.Logged.{image_by}
-use Rattle.dsd_journal.specs.Headers.{IsId}
 use Rattle.dsd_journal.specs.JournalImage.{Holds, body, spelled}
 use Rattle.dsd_journal.specs.declared.entry.Entry.{Entry}
 use Rattle.dsd_journal.specs.declared.header.Header.{Header}
 use Rattle.delivery_book.specs.Finals.{final_of}
 use Rattle.clean_sessions.specs.ChosenAnswers.{IgnoresCheck}
 use Rattle.clean_sessions.specs.DeliveryStands.{sets_in}
-use Rattle.clean_sessions.specs.Sessions.{post_behind}
 use Rattle.clean_sessions.specs.TalkedSets.{AreSaid, FollowsTalks, IsFinalInBoth}
 use Rattle.clean_sessions.specs.Talks.{by_role, said_in}
 use Rattle.clean_sessions.proofs.FewSpoken.{session_spends}
@@ -28,7 +26,7 @@ use Rattle.cable_world.specs.declared.event.Event.{Event}
 use Rattle.clean_worlds.specs.CleanBeginnings.{PlaysClean}
 use Rattle.clean_worlds.specs.CleanEndings.{HasCleanEnd}
 use Rattle.clean_worlds.specs.CleanWorlds.{EndsInClean, come_to}
-use Rattle.clean_worlds.specs.Finishing.{Finishes, FinishesFromNothing, FinishesIfForetold, IsForetold, IsForetoldFromNothing}
+use Rattle.clean_worlds.specs.Finishing.{Finishes, FinishesFromNothing, FinishesIfForetold}
 use Rattle.clean_worlds.specs.Foreseen.{AreFew}
 use Rattle.clean_worlds.specs.Healing.{Heals}
 use Rattle.clean_worlds.specs.LeftLists.{LeavesLists, entries_left}

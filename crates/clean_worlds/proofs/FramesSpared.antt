@@ -1,5 +1,5 @@
 -- An end that hears a frame quietly goes well poll by poll, where nothing armed is left.
-use Rattle.std.proofs.Common.{◌≡◌, ◌≢◌, ◌<◌, ◌≤◌, ◌+◌, inl, inr, ℕ, Bool, true, false, List, [], ◌∷◌, ◌++◌, length, take, drop, map, Option, Some, None, refl, sym, ◌∙◌, ap, subst, append_assoc, append-nil, length-append, arith}
+use Rattle.std.proofs.Common.{◌≡◌, ◌≢◌, ◌<◌, ◌+◌, inl, inr, ℕ, Bool, true, false, List, [], ◌∷◌, ◌++◌, length, take, drop, map, Option, Some, None, refl, sym, ◌∙◌, ap, subst, append_assoc, append-nil, length-append, arith}
 use Rattle.std.specs.Prelude.{not}
 use Rattle.std.proofs.lemmas.List.{take-append-drop}
 use Rattle.dsd_values.specs.declared.role.Role.{Role}
@@ -25,8 +25,6 @@ use Rattle.dsd_end.specs.EndFaults.{IsNoise}
 use Rattle.dsd_end.specs.FullTurns.{FrameFull, FramesFull, HearsFull}
 use Rattle.dsd_end.specs.PollStep.{Done, Next, scanned}
 use Rattle.dsd_end.specs.Polls.{with_flags}
-use Rattle.dsd_end.specs.PollsHeard.{receptions_of}
-use Rattle.dsd_end.specs.Runs.{bytes_heard}
 use Rattle.dsd_end.specs.Standings.{Standing, has_ended, with_begun}
 use Rattle.dsd_end.specs.declared.fault.TheConstants.{NOISE_BYTES}
 use Rattle.clean_sessions.proofs.FramesFed.{all_heard}

@@ -1,5 +1,5 @@
 -- The rounds of CLEAN go well while the session goes quietly, where nothing armed is left.
-use Rattle.std.proofs.Common.{◌≡◌, ◌<◌, ◌+◌, inl, inr, ℕ, zero, suc, Bool, true, false, ◌||◌, List, [], ◌∷◌, ◌++◌, length, Option, Some, refl, sym, ◌∙◌, ap, subst}
+use Rattle.std.proofs.Common.{◌≡◌, inl, inr, ℕ, zero, suc, true, false, List, [], ◌∷◌, Option, Some, sym, ◌∙◌, ap, subst}
 use Rattle.std.specs.Prelude.{not}
 use Rattle.dsd_values.specs.declared.role.Role.{Role}
 use Rattle.dsd_record.specs.Choices.{Chooser}
@@ -11,7 +11,7 @@ use Rattle.dex_line.specs.FrameShapes.{FrameShape}
 use Rattle.dex_line.specs.FrameSpelling.{IsSpoken, spelling}
 use Rattle.dex_line.specs.Hearing.{AreSpoken}
 use Rattle.dsd_end.specs.FullTurns.{FrameFull}
-use Rattle.dsd_end.specs.Standings.{Standing, has_ended}
+use Rattle.dsd_end.specs.Standings.{Standing}
 use Rattle.clean_sessions.specs.Halls.{CleanStep, Hall}
 use Rattle.clean_sessions.specs.QuietHalls.{GoesQuietly, HaveEnded, HearsQuietly}
 use Rattle.cable_world.specs.Diligence.{ComesBy}
