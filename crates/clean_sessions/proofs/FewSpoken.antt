@@ -14,7 +14,7 @@ use Rattle.clean_sessions.specs.Halls.{Hall}
 use Rattle.clean_sessions.specs.Sessions.{Spoken, turn_of}
 use Rattle.clean_sessions.specs.Turns.{all_alone}
 use Rattle.clean_sessions.proofs.SessionsBegun.{session_clean}
-use Rattle.clean_sessions.proofs.SessionsSettled.{all_turns, first_sets, later}
+use Rattle.clean_sessions.proofs.SessionsSettled.{all_turns, ends, first_sets, later}
 
 module _ (id other : List ℕ) (supplier receiver : Chooser) (supplier_entries receiver_entries : List Entry) (first : Spoken) (more : List Spoken) (new : Hall)
     (is : IsId id) (others : IsId other) (drafts : All IsBase supplier.drafts) (their_drafts : All IsBase receiver.drafts) (backed : AreBacked Supplier supplier_entries receiver_entries)
@@ -24,7 +24,8 @@ module _ (id other : List ℕ) (supplier receiver : Chooser) (supplier_entries r
   few_alone =
       let rest = later id other supplier receiver supplier_entries receiver_entries first more new is others drafts their_drafts backed c in
       let sets = first_sets id other supplier receiver supplier_entries receiver_entries first more new is others drafts their_drafts backed c in
-      let all = few (sets ∷ rest.turns) (all_turns id other supplier receiver supplier_entries receiver_entries first more new is others drafts their_drafts backed c) in
+      let all = few (sets ∷ rest.turns) (all_turns id other supplier receiver supplier_entries receiver_entries first more new is others drafts their_drafts backed c)
+      (ends id other supplier receiver supplier_entries receiver_entries first more new is others drafts their_drafts backed c) in
       let here = ap blocks_alone c.sets in
       let alone = rest.alone in
       omega (arith, all, here, alone)

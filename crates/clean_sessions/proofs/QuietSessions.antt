@@ -17,12 +17,13 @@ use Rattle.clean_sessions.specs.Beginnings.{opened, receiver_header, seat_before
 use Rattle.clean_sessions.specs.BlocksAlone.{blocks_alone}
 use Rattle.clean_sessions.specs.CleanHeaders.{first_sent, receiver_ready, second_both, second_frame, second_sent, started_both, supplier_ready}
 use Rattle.clean_sessions.specs.CleanTurns.{Passes, begins, has_none, next_hearer, next_owner}
-use Rattle.clean_sessions.specs.FewBlocks.{HaveRoom, SpeakAtMost, most_blocks}
+use Rattle.clean_sessions.specs.FewBlocks.{HasPlaceBehind, HaveRoom, SpeakAtMost, most_blocks}
 use Rattle.clean_sessions.specs.Halls.{AreExchanged, BeginsTurn, CleanStep, GoesOn, Hall, IsComplete, LeavesHall, TakesNext}
 use Rattle.clean_sessions.specs.QuietHalls.{GoesQuietly, HearsQuietly}
-use Rattle.clean_sessions.specs.SeatTurns.{AreOwnTurns, Seat, at_desk}
+use Rattle.clean_sessions.specs.SeatTurns.{AreOwnTurns, EndsWhenSilent, Seat, at_desk, has_none as has_no_set}
 use Rattle.clean_sessions.specs.Sessions.{IsSpokenText, Spoken}
 use Rattle.clean_sessions.specs.SinceLast.{blocks_spoken_in}
+use Rattle.clean_sessions.proofs.BoolTests.{never_both}
 use Rattle.clean_sessions.proofs.BriefFrames.{IsBrief, enq_brief, eot_brief, load_brief}
 use Rattle.clean_sessions.proofs.BytesHeard.{IsHeardLow, headers_low, step_low, turn_low}
 use Rattle.clean_sessions.proofs.HallsWalked.{Says, StandsAs, begun, post_at, says_step, turn_taken}
@@ -31,6 +32,7 @@ use Rattle.clean_sessions.proofs.LoadsCounted.{no_blocks}
 use Rattle.clean_sessions.proofs.QuietTurns.{Later, eot_quietly, eot_said, walks_quietly}
 use Rattle.clean_sessions.proofs.SessionSeats.{same_seat, seat_of}
 use Rattle.clean_sessions.proofs.SessionsBegun.{first_brief, second_brief, texts_begun}
+use Rattle.clean_sessions.proofs.SilentLoads.{none_alike}
 use Rattle.clean_sessions.proofs.SessionsTaken.{gathered_sets, spoken_text}
 use Rattle.clean_sessions.proofs.TurnsPassed.{passes}
 
@@ -41,36 +43,45 @@ abbrev pad : Bool → ℕ
 pad true = 2
 pad false = 0
 
+-- own turns behind a turn without a set, or with some, where the one before it had none or some
+abbrev EndsSo : Bool → Bool → List (List DueSet) → Type 0
+EndsSo silent none turns = (silent ≡ true → none ≡ true → turns ≡ []) × EndsWhenSilent none turns
+
 -- So many blocks were spoken before the turn of this text, which has so many; and own turns behind it speak no more than are left, and find room. Neither end was polled
 -- more often than all that costs.
 record Allows (empty : Bool) (text : List ℕ) (hall : Hall) : Type 0 where
   before : ℕ
   now : ℕ
-  few : (turns : List (List DueSet)) → AreOwnTurns turns (seat_of hall.near) (seat_of hall.far) text → before + now + blocks_spoken_in turns ≤ most_blocks
-  room : HaveRoom (seat_of hall.near) (seat_of hall.far) text
+  few : (turns : List (List DueSet)) → AreOwnTurns turns (seat_of hall.near) (seat_of hall.far) text → EndsSo empty (has_none text) turns → before + now + blocks_spoken_in turns ≤ most_blocks
+  room : (turns : List (List DueSet)) → (t : AreOwnTurns turns (seat_of hall.near) (seat_of hall.far) text) → EndsSo empty (has_none text) turns → HasPlaceBehind turns (seat_of hall.near) (seat_of hall.far) text t
   size : length (load_of text) ≤ now + 2
   none : (now == 0) ≡ has_none text
   near : hall.near.polls ≤ 40 + 24 * before + pad empty
   far : hall.far.polls ≤ 40 + 24 * before + pad empty
   low : IsHeardLow hall
 
--- behind an own turn that gives a load
-allows_next : (own theirs : Seat) (text load : List ℕ) (desk : Desk) (before : ℕ) (empty : Bool) (new : Hall) → (turned : Turned own.header own.chooser own.desk text desk load)
-    → ((turns : List (List DueSet)) → AreOwnTurns turns own theirs text → before + blocks_spoken_in turns ≤ most_blocks) → HaveRoom own theirs text → seat_of new.near ≡ theirs → seat_of new.far ≡ at_desk own desk
-    → new.near.polls ≤ 40 + 24 * before + pad empty → new.far.polls ≤ 40 + 24 * before + pad empty → IsHeardLow new → Allows empty load new
-allows_next own theirs text load desk before empty new turned few room near_seat far_seat near_polls far_polls low =
+-- behind an own turn that gives a load, where the turn before was not the last one
+allows_next : (own theirs : Seat) (text load : List ℕ) (desk : Desk) (before : ℕ) (silent none : Bool) (new : Hall) → (turned : Turned own.header own.chooser own.desk text desk load) → (silent ≡ true → none ≡ true → ⊥)
+    → ((turns : List (List DueSet)) → AreOwnTurns turns own theirs text → EndsSo silent none turns → before + blocks_spoken_in turns ≤ most_blocks)
+    → ((turns : List (List DueSet)) → (t : AreOwnTurns turns own theirs text) → EndsSo silent none turns → HasPlaceBehind turns own theirs text t) → seat_of new.near ≡ theirs → seat_of new.far ≡ at_desk own desk
+    → new.near.polls ≤ 40 + 24 * before + pad none → new.far.polls ≤ 40 + 24 * before + pad none → IsHeardLow new → Allows none load new
+allows_next own theirs text load desk before silent none new turned goes few room near_seat far_seat near_polls far_polls low =
     let sets : List DueSet = gathered own.header turned.proposed in
     let spoken : Spoken = record { sets = texts_of sets; text = load } in
     let cost : IsSpokenText spoken = spoken_text own.header sets (next_turn turned.proposed) spoken turned.loads (gathered_sets own.header turned.proposed) refl in
     let now : ℕ = blocks_alone (texts_of sets) in
-    let Few : Seat → Seat → Type 0 = λ (n f : Seat). (turns : List (List DueSet)) → AreOwnTurns turns n f load → before + now + blocks_spoken_in turns ≤ most_blocks in
-    let still : Few theirs (at_desk own desk) = λ turns t. (let all = few (sets ∷ turns) (desk, load, turned, refl, t) in omega (arith, all)) in
-    let rooms : HaveRoom theirs (at_desk own desk) load = λ turns t. room (sets ∷ turns) (desk, load, turned, refl, t) in
+    let alike : has_no_set sets ≡ has_none load = none_alike own.header (next_turn turned.proposed) sets load turned.loads in
+    let longer : (turns : List (List DueSet)) → EndsSo none (has_none load) turns → EndsSo silent none (sets ∷ turns) =
+    λ turns e. ((λ s n. absurd (goes s n)), ((λ n none_there. e.0 n (sym alike ∙ none_there)), subst (λ (b : Bool). EndsWhenSilent b turns) (sym alike) e.1)) in
+    let Few : Seat → Seat → Type 0 = λ (n f : Seat). (turns : List (List DueSet)) → AreOwnTurns turns n f load → EndsSo none (has_none load) turns → before + now + blocks_spoken_in turns ≤ most_blocks in
+    let still : Few theirs (at_desk own desk) = λ turns t e. (let all = few (sets ∷ turns) (desk, load, turned, refl, t) (longer turns e) in omega (arith, all)) in
+    let Room : Seat → Seat → Type 0 = λ (n f : Seat). (turns : List (List DueSet)) → (t : AreOwnTurns turns n f load) → EndsSo none (has_none load) turns → HasPlaceBehind turns n f load t in
+    let rooms : Room theirs (at_desk own desk) = λ turns t e. room (sets ∷ turns) (desk, load, turned, refl, t) (longer turns e) in
     record {
       before = before;
       now = now;
       few = subst (λ (n : Seat). Few n (seat_of new.far)) (sym near_seat) (subst (Few theirs) (sym far_seat) still);
-      room = subst (λ (n : Seat). HaveRoom n (seat_of new.far) load) (sym near_seat) (subst (λ (f : Seat). HaveRoom theirs f load) (sym far_seat) rooms);
+      room = subst (λ (n : Seat). Room n (seat_of new.far)) (sym near_seat) (subst (Room theirs) (sym far_seat) rooms);
       size = cost.few;
       none = cost.none;
       near = near_polls;
@@ -124,7 +135,7 @@ module _ (owner hearer : Common) (text : List ℕ) (hall : Hall) (b : BeginsTurn
   limit = 60 + 24 * (a.before + a.now)
 
   few_heard : 64 * limit < NOISE_BYTES
-  few_heard = let all = a.few [] tt in few_bytes (a.before + a.now) (omega (arith, all))
+  few_heard = let all = a.few [] tt ((λ silent none. refl), tt) in few_bytes (a.before + a.now) (omega (arith, all))
 
   abbrev p : Passes owner hearer text
   p = passes owner hearer b.pair text b.load.units b.load.short
@@ -135,7 +146,7 @@ module _ (owner hearer : Common) (text : List ℕ) (hall : Hall) (b : BeginsTurn
       let len : ℕ = length (load_of text) in
       let silent : has_none text ≡ true → len ≡ 0 = λ none. no_blocks text (nothing_said text none) in
       let heard : has_none text ≡ false → 1 ≤ a.now = λ none. some_blocks a.now (a.none ∙ none) in
-      allows_next (seat_of hall.near) (seat_of hall.far) text goes.load goes.desk (a.before + a.now) (has_none text) new goes.turned (λ turns t. a.few turns t) a.room
+      allows_next (seat_of hall.near) (seat_of hall.far) text goes.load goes.desk (a.before + a.now) owner.empty (has_none text) new goes.turned (λ quiet none. never_both _ (ap (λ (b : Bool). b && owner.empty) none ∙ quiet) both) (λ turns t e. a.few turns t e) a.room
       (same_seat (seat_of new.near) (seat_of hall.far) l.costs.headers.0 l.costs.choosers.0 l.costs.desk)
       (same_seat (seat_of new.far) (at_desk (seat_of hall.near) goes.desk) l.costs.headers.1 l.costs.choosers.1 goes.left)
       (within_next new.near.polls hall.far.polls len a.before a.now owner.empty (has_none text) both silent heard a.size (owner_cost new.near.polls hall.far.polls len l.costs.owner) a.far)
@@ -169,7 +180,7 @@ module _ (owner hearer : Common) (text : List ℕ) (hall : Hall) (b : BeginsTurn
           let hears_it : HearsQuietly behind Eot =
           subst (λ (h : Hall). HearsQuietly h Eot) (sym here)
           (eot_quietly hall.near (post_at hall.far p.volley.owner at.far_heard at.far_now) (InText p.common p.taking) at.near_heard at.near_now limit (has_none text && owner.empty) (next_owner hearer (has_none text)) text refl row
-          (λ none. a.room [] tt) eot_brief low (omega (arith, now, within)) few_heard) in (
+          (λ none. a.room [] tt ((λ silent nothing. refl), tt)) eot_brief low (omega (arith, now, within)) few_heard) in (
             inr (Eot, hears_it),
             λ next step.
                 let l = turn_taken owner hearer text hall b next (behind, is.taken, step) in
@@ -207,7 +218,7 @@ module _ (id other : List ℕ) (is : IsId id) (others : IsId other) (supplier re
         let supplier_polls = t.supplier in
         let receiver_polls = t.receiver in
         turns_quietly frames frames (supplier_ready id other) (receiver_ready id other) t.load new (omega arith) t.begins
-        (allows_next near far [] t.load t.desk 0 false new t.turned (λ turns own. (let all = few turns own in omega (arith, all))) room (same_seat (seat_of new.near) far t.headers.0 t.choosers.0 t.desks)
+        (allows_next near far [] t.load t.desk 0 false false new t.turned (λ quiet none. absurd (cc)) (λ turns own e. (let all = few turns own e.1 in omega (arith, all))) (λ turns own e. room turns own e.1) (same_seat (seat_of new.near) far t.headers.0 t.choosers.0 t.desks)
         (same_seat (seat_of new.far) (at_desk near t.desk) t.headers.1 t.choosers.1 t.left) (omega (arith, receiver_polls)) (omega (arith, supplier_polls))
         (headers_low start new (behind, bids, answered, one, two, three, four) start_low))
 
@@ -230,7 +241,7 @@ module _ (id other : List ℕ) (is : IsId id) (others : IsId other) (supplier re
               inr (
                 Eot,
                 subst (λ (h : Hall). HearsQuietly h Eot) (sym a.is) (eot_quietly start.far (post_at start.near (second_sent id other).owner a.far_heard a.far_now) (second_sent id other).hearer a.near_heard a.near_now 60 false
-                    (supplier_ready id other) [] refl pass.then_texts (λ none. room [] tt) eot_brief heard_low (omega (arith, now, within)) (omega arith)),
+                    (supplier_ready id other) [] refl pass.then_texts (λ none. room [] tt tt) eot_brief heard_low (omega (arith, now, within)) (omega arith)),
               ),
               λ new four. texts_quietly left behind bids answered new one two is_behind.taken four,
             )

@@ -1,5 +1,5 @@
 -- What own turns speak and add from here on, told before they are taken: from both lists and both choosers alone.
-use Rattle.std.specs.Prelude.{◌≤◌, ◌<◌, ℕ, ◌+◌, ◌*◌, Bool, List, [], ◌∷◌, length, map}
+use Rattle.std.specs.Prelude.{◌≤◌, ◌<◌, ℕ, ◌+◌, ◌*◌, Bool, false, List, [], ◌∷◌, length, map}
 use Rattle.dsd_journal.specs.JournalImage.{gate_place}
 use Rattle.dsd_journal.specs.declared.entry.Entry.{Entry}
 use Rattle.dsd_journal.specs.declared.limits.TheConstants.{JOURNAL_BYTES}
@@ -7,7 +7,7 @@ use Rattle.dsd_end.specs.declared.fault.TheConstants.{NOISE_BYTES}
 use Rattle.own_turn.specs.DueSets.{DueSet}
 use Rattle.own_turn.specs.NextEntry.{TurnAddsNext}
 use Rattle.clean_sessions.specs.Halls.{Hall}
-use Rattle.clean_sessions.specs.SeatTurns.{AreOwnTurns, Seat, at_desk}
+use Rattle.clean_sessions.specs.SeatTurns.{AreOwnTurns, EndsWhenSilent, Seat, at_desk}
 use Rattle.clean_sessions.specs.Sessions.{Spoken, post_behind, turn_of}
 use Rattle.clean_sessions.specs.SinceLast.{blocks_spoken_in}
 use Rattle.clean_sessions.specs.Turns.{all_alone}
@@ -16,9 +16,9 @@ use Rattle.clean_sessions.specs.Turns.{all_alone}
 abbrev pub most_blocks : ℕ
 most_blocks = 1_299
 
--- Own turns in turn, however many, speak no more blocks than these, each set cut alone and counted as often as it is spoken.
+-- Own turns in turn, up to two in a row without a set, speak no more blocks than these, each set cut alone and counted as often as it is spoken.
 abbrev pub SpeakAtMost : ℕ → Seat → Seat → List ℕ → Type 0
-SpeakAtMost most near far text = (turns : List (List DueSet)) → AreOwnTurns turns near far text → blocks_spoken_in turns ≤ most
+SpeakAtMost most near far text = (turns : List (List DueSet)) → AreOwnTurns turns near far text → EndsWhenSilent false turns → blocks_spoken_in turns ≤ most
 
 -- Whatever entry the own turn of this end adds next, which has heard this text, the journal has room for it.
 abbrev pub HasPlace : Seat → List ℕ → Type 0
@@ -30,9 +30,9 @@ abbrev pub HasPlaceBehind : (turns : List (List DueSet)) → (near far : Seat) �
 HasPlaceBehind [] near far text t = HasPlace near text
 HasPlaceBehind (first ∷ more) near far text t = HasPlaceBehind more far (at_desk near t.0) t.1 t.4
 
--- Behind own turns in turn, however many, the next one finds room.
+-- Behind own turns in turn, of which so many are taken, the next one finds room.
 abbrev pub HaveRoom : Seat → Seat → List ℕ → Type 0
-HaveRoom near far text = (turns : List (List DueSet)) → (t : AreOwnTurns turns near far text) → HasPlaceBehind turns near far text t
+HaveRoom near far text = (turns : List (List DueSet)) → (t : AreOwnTurns turns near far text) → EndsWhenSilent false turns → HasPlaceBehind turns near far text t
 
 -- A session in which this was spoken had no more blocks than these, each end was polled at most 60 times and 24 times for each of them, and what it has heard is no noise.
 pub record SpendsFew (most : ℕ) (first : Spoken) (more : List Spoken) (new : Hall) : Type 0 where

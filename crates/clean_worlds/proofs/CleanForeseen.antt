@@ -92,7 +92,7 @@ module _ (id other_id : List ℕ) (is_id : IsId id) (others : IsId other_id) (su
       let shows = hall_shown id other_id is_id others supplier receiver (at_second Supplier) (at_first Receiver) plays.between opens.between begun.between opens.first begun.first q.mid t.mid cut.waiting r s in
       let four = exchanges_spared chooser header are Receiver Supplier (opened id other_id supplier receiver s.opens.leaves.entries r.opens.leaves.entries) begun.between next t.mid last
       (λ (role : Role). state_after role (at_second role) begun.first) t.back shows
-      (session_quietly id other_id is_id others supplier receiver s.opens.leaves.entries r.opens.leaves.entries (λ turns t. (let few = foreseen.blocks turns t in let within = foreseen.within in omega (arith, few, within))) foreseen.room) (subst (λ (l : List WorldStep). Exchanges begun.between l next) (sym t.then_is) begun.behind)
+      (session_quietly id other_id is_id others supplier receiver s.opens.leaves.entries r.opens.leaves.entries (λ turns t ends. (let few = foreseen.blocks turns t ends in let within = foreseen.within in omega (arith, few, within))) foreseen.room) (subst (λ (l : List WorldStep). Exchanges begun.between l next) (sym t.then_is) begun.behind)
       t.come_then t.calls_then (each_role (λ (role : Role). IsSpared (side begun.between role).log) Receiver (subst (λ (x : Side). IsSpared x.log) (sym same) two.spared) three.spared)
       (each_role (λ (role : Role). WorksIfRunning (side begun.between role)) Receiver (subst WorksIfRunning (sym same) two.works) three.works) in
       subst GoWell (sym (p.parts ∙ ap (λ (l : List Noted). p.front ++ l) (q.parts ∙ ap (λ (l : List Noted). q.front ++ l) t.parts)))
