@@ -72,7 +72,7 @@ pub record IsHeardLow (hall : Hall) : Type 0 where
   pub near : hall.near.standing.heard ≤ 64 * hall.near.polls
   pub far : hall.far.standing.heard ≤ 64 * hall.far.polls
 
-step_low : (old new : Hall) → CleanStep old new → IsHeardLow old → IsHeardLow new
+pub step_low : (old new : Hall) → CleanStep old new → IsHeardLow old → IsHeardLow new
 step_low old new step low =
     let more = pieces_heard old.near.chooser step.pieces _ old.near.standing step.done step.fed.cut step.fed.polls in
     let near = low.near in
@@ -81,11 +81,11 @@ step_low old new step low =
     far_low : (now before polls count : ℕ) → now ≤ before + 64 * count → before ≤ 64 * polls → now ≤ 64 * (polls + count)
     far_low now before polls count a b = omega (arith, a, b)
 
-exchanged_low : (n : ℕ) (old new : Hall) → AreExchanged n old new → IsHeardLow old → IsHeardLow new
+pub exchanged_low : (n : ℕ) (old new : Hall) → AreExchanged n old new → IsHeardLow old → IsHeardLow new
 exchanged_low zero old new e low = subst IsHeardLow e low
 exchanged_low (suc n) old new (middle, next, one, two, rest) low = exchanged_low n next new rest (step_low middle next two (step_low old middle one low))
 
-turn_low : (blocks : ℕ) (old new : Hall) → IsTurnTaken blocks old new → IsHeardLow old → IsHeardLow new
+pub turn_low : (blocks : ℕ) (old new : Hall) → IsTurnTaken blocks old new → IsHeardLow old → IsHeardLow new
 turn_low blocks old new (behind, exchanged, last) low = step_low behind new last (exchanged_low (suc blocks) old behind exchanged low)
 
 pub headers_low : (old new : Hall) → AreHeadersTaken old new → IsHeardLow old → IsHeardLow new

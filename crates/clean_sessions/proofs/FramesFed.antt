@@ -33,7 +33,7 @@ frame_alone frame spoken =
     ∙ spoken_heard (frame ∷ []) [] (spoken, tt) (Enq, 5, [], tt, refl)
 
 -- the last piece completes it
-all_heard : (frame : FrameShape) (front : List ℕ) (b : ℕ) (more : List ℕ) → IsSpoken frame → spelling frame ≡ front ++ b ∷ more
+pub all_heard : (frame : FrameShape) (front : List ℕ) (b : ℕ) (more : List ℕ) → IsSpoken frame → spelling frame ≡ front ++ b ∷ more
     → hear_all (hearing front []) (b ∷ more) ≡ hearing [] (frame ∷ [])
 all_heard frame front b more spoken e =
     ap (λ (h : Hearing). hear_all h (b ∷ more)) (sym (begun_heard [] front [] (begun_front frame front b more spoken e)))

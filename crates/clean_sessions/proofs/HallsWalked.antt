@@ -28,7 +28,7 @@ abbrev pub post_at : Post → Line → ℕ → ℕ → Post
 post_at post line heard polls = record { chooser = post.chooser; standing = standing_at post.standing line heard; polls = polls }
 
 -- what says something has not ended
-says_runs : (line : Line) (frame reply : FrameShape) (next : Line) → hears line frame ≡ says reply next → has_ended line ≡ false
+pub says_runs : (line : Line) (frame reply : FrameShape) (next : Line) → hears line frame ≡ says reply next → has_ended line ≡ false
 says_runs (Ended end) frame reply next e = let none : None ≡ Some reply = ap (λ (s : LineStep). s.say) e in absurd (cc)
 says_runs (Ready own) frame reply next e = refl
 says_runs (Bidding own load) frame reply next e = refl
@@ -38,7 +38,7 @@ says_runs (InText own taking) frame reply next e = refl
 says_runs (Finished own text) frame reply next e = refl
 
 -- and it has come to no own turn
-no_turn : (line : Line) (frame reply : FrameShape) (next : Line) → hears line frame ≡ says reply next → (own : Common) (text : List ℕ) → next ≡ Finished own text → ⊥
+pub no_turn : (line : Line) (frame reply : FrameShape) (next : Line) → hears line frame ≡ says reply next → (own : Common) (text : List ℕ) → next ≡ Finished own text → ⊥
 no_turn line frame reply next e own text finished =
     let there : (hears line frame).next ≡ Finished own text = ap (λ (s : LineStep). s.next) e ∙ finished in
     let none : Some reply ≡ None = sym (ap (λ (s : LineStep). s.say) e) ∙ turns_come_silently line frame own text there in
@@ -213,7 +213,7 @@ post_is post line is none =
     ∙ ap (λ (begun : List ℕ). let p : Post = record { chooser = post.chooser; standing = record post.standing { line = line; begun = begun }; polls = post.polls } in p) none
 
 module _ (owner hearer : Common) (text : List ℕ) (old : Hall) (b : BeginsTurn owner hearer text old) where
-  begun : StandsAs old.near old.far (begins owner hearer (load_of text)) old.near.polls old.far.polls 0 0 old
+  pub begun : StandsAs old.near old.far (begins owner hearer (load_of text)) old.near.polls old.far.polls 0 0 old
   begun = record {
     near_heard = old.near.standing.heard;
     far_heard = old.far.standing.heard;

@@ -88,3 +88,6 @@ pub mod SessionsGrown
 pub mod SpokenSince
 pub mod SessionTalks
 pub mod CoresRight
+pub mod QuietTurns
+pub mod QuietSessions
+pub mod FewSpoken

@@ -82,10 +82,10 @@ module _ (id other : List ℕ) (is : IsId id) (others : IsId other) (supplier re
   begun : StandsAs start.near start.far (started_both id other) 0 1 0 0 start
   begun = record { near_heard = 0; far_heard = 0; near_now = 0; far_now = 1; near_few = omega arith; far_few = omega arith; is = refl }
 
-  first_brief : IsBrief 1 (first_header (beginning Supplier id other))
+  pub first_brief : IsBrief 1 (first_header (beginning Supplier id other))
   first_brief = header_brief (id ++ codes "SR01L01") (first_spoken id is.text is.ten)
 
-  second_brief : IsBrief 1 (second_frame other)
+  pub second_brief : IsBrief 1 (second_frame other)
   second_brief = let may = may_spell other others.text others.ten in header_brief (codes "00" ++ other ++ codes "R01L01") (may.greets true)
 
   -- as the supplier has heard the receiver's header

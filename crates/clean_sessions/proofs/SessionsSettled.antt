@@ -86,7 +86,7 @@ module _ (id other : List ℕ) (supplier receiver : Chooser) (supplier_entries r
       (subst (λ (d : Desk). IsSettled number d.entries (desk_behind true later.turns far (at_desk near c.desk) first.text later.taken).entries) (sym (later.desks true))
       (session_settles (first_sets ∷ later.turns) near far meet refl refl refl all_turns silent number))
 
-  ends : EndsWhenSilent false (first_sets ∷ later.turns)
+  pub ends : EndsWhenSilent false (first_sets ∷ later.turns)
   ends = (
     (λ no. absurd (cc)),
     subst (λ (b : Bool). EndsWhenSilent b later.turns) (sym (none_alike (supplier_header id other) (next_turn c.turned.proposed) first_sets first.text c.turned.loads)) later.ends,

@@ -20,3 +20,5 @@ pub mod SinceLast
 pub mod Declining
 pub mod Talks
 pub mod TalkedSets
+pub mod FewBlocks
+pub mod QuietHalls

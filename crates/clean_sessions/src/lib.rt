@@ -27,6 +27,9 @@
 //! these, and no more but behind an end that declines a set which is too long with nine digits of a control number alone. A
 //! delivery whose talk ends in an acceptance is final at both, and where neither end ever waits all deliveries are.
 //!
+//! That such a session goes on without a fault can be told before it, from both lists and both choosers: where own turns from these lists speak few blocks and find
+//! room, no end hears so much that it is noise, and none finds its journal full.
+//!
 //! That a world makes these steps in a clean event is a law of `clean_worlds`.
 #![tactic(auto)]
 
@@ -37,6 +40,7 @@ mod course_laws;
 mod delivery_laws;
 mod line_laws;
 mod poll_laws;
+mod quiet_laws;
 mod talk_laws;
 mod turn_laws;
 
@@ -55,6 +59,9 @@ pub use delivery_laws::{
 };
 pub use line_laws::{headers_pass, turns_pass};
 pub use poll_laws::turns_are_few;
+pub use quiet_laws::{
+    foretold_sessions_go_quietly, foretold_sessions_spend_few, signed_blocks_bound_spoken_ones,
+};
 pub use talk_laws::{
     answers_ignore_checks, chosen_answers_are_signed_at_once, chosen_sets_may_be_signed,
     cores_ignore_checks, deliveries_are_asked_apart, lower_controls_can_be_written,

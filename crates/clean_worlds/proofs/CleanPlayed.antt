@@ -58,7 +58,7 @@ module _ (id other_id : List ℕ) (is_id : IsId id) (others : IsId other_id) (su
     sayable = started_sayable Receiver other_id id others;
   }
 
-  hall_shown : (state their_state : State) (scene mid next : Scene) (receiver_steps supplier_steps : List WorldStep) (before after : Role → Option Standing) → scene.waiting ≡ []
+  pub hall_shown : (state their_state : State) (scene mid next : Scene) (receiver_steps supplier_steps : List WorldStep) (before after : Role → Option Standing) → scene.waiting ≡ []
       → (r : ReceiverOpens (choosers supplier receiver) (headers id other_id) their_state scene mid receiver_steps (before Receiver))
       → (s : SupplierOpens (choosers supplier receiver) (headers id other_id) state mid next supplier_steps (after Supplier) (before Receiver) (after Receiver))
       → ShowsHall (choosers supplier receiver) (headers id other_id) Receiver Supplier (opened id other_id supplier receiver s.opens.leaves.entries r.opens.leaves.entries) next after

@@ -27,7 +27,7 @@ use Rattle.clean_worlds.proofs.PolledOut.{PollsOut, polled_whole}
 use Rattle.clean_worlds.proofs.SayableFrames.{once_says_on}
 use Rattle.clean_worlds.proofs.Stepped.{bytes_due, bytes_fed, fed_other, fed_own, fed_waiting}
 
-spelled_some : (frame : FrameShape) → IsSpoken frame → spelling frame ≢ []
+pub spelled_some : (frame : FrameShape) → IsSpoken frame → spelling frame ≢ []
 spelled_some Enq spoken none = cc
 spelled_some Ack0 spoken none = cc
 spelled_some Ack1 spoken none = cc

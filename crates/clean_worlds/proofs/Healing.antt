@@ -105,7 +105,7 @@ module _ (one_list : OneList) (world : WorldView) (played : HasPlayed world) (ma
     opens_end : (role : Role) (entries : List Entry) → OpensOver role (header role) (come_to ends.handheld ends.receiver ends.before role) (steps_of ends.behind) entries → OpensEnd role entries
     opens_end role entries = as_played (λ (handheld receiver : Log). OpensOver role (header role) (come_to handheld receiver ends.before role) (steps_of ends.behind) entries)
 
-    heals_unless : All IsBase (chooser_of world.script Supplier).drafts → (well : GoWell ends.behind) → NoSetsClash (ends.clean well).supplier_entries (ends.clean well).receiver_entries → Heals _ _ _ _ _ _ _ _ (ends.clean well)
+    pub heals_unless : All IsBase (chooser_of world.script Supplier).drafts → (well : GoWell ends.behind) → NoSetsClash (ends.clean well).supplier_entries (ends.clean well).receiver_entries → Heals _ _ _ _ _ _ _ _ (ends.clean well)
     heals_unless drafts well apart =
         let plays = ends.clean well in
         let backed = openings_backed ends.before ends.behind ends.between ends.last plays.supplier_entries plays.receiver_entries ends.joined obeys ends.plays
@@ -153,10 +153,13 @@ module _ (one_list : OneList) (world : WorldView) (played : HasPlayed world) (ma
         (subst (λ (l : List WorldStep). Holds (header role) entries (image_left (state_after role (come_to played.handheld played.receiver ends.before role) l))) (no_step none ends.plays) held) in
         (one_list (image_left (state_of log.calls)) (header role) (header role) entries [] at_first (begun.nothing (image_left (state_of log.calls)) (left_may (state_of log.calls) begun.fine))).1
 
+    pub opens_nothing : events ≡ [] → (role : Role) (entries : List Entry) → OpensOver role (header role) (come_to ends.handheld ends.receiver ends.before role) (steps_of ends.behind) entries → entries ≡ []
+    opens_nothing none role entries opens = opens_empty none role entries (opens_end role entries opens)
+
     none_there : (text : List ℕ) → Contains [] text → ⊥
     none_there text found = omega (arith, found.1)
 
-    apart_empty : (s r : List Entry) → s ≡ [] → r ≡ [] → NoSetsClash s r
+    pub apart_empty : (s r : List Entry) → s ≡ [] → r ≡ [] → NoSetsClash s r
     apart_empty s r none nothing =
         subst (λ (l : List Entry). NoSetsClash l r) (sym none) (subst (λ (l : List Entry). NoSetsClash [] l) (sym nothing)
         (record { there = λ taken signed set other found. absurd (none_there taken found); back = λ taken signed set other found. absurd (none_there taken found) }))

@@ -40,3 +40,7 @@ pub mod StartsWell
 pub mod OpensWell
 pub mod CleanUnhindered
 pub mod SparedScripts
+pub mod FramesSpared
+pub mod RoundsSpared
+pub mod CleanForeseen
+pub mod Foretold

@@ -35,7 +35,7 @@ use Rattle.clean_worlds.proofs.Stepped.{not_busy, not_idle, sent_more}
 
 -- ---- a piece that completes nothing
 
-middle_poll : (chooser : Chooser) (frame : FrameShape) (front piece : List ℕ) (b : ℕ) (more : List ℕ) (standing : Standing) (done : Done) → IsSpoken frame → spelling frame ≡ (front ++ piece) ++ b ∷ more
+pub middle_poll : (chooser : Chooser) (frame : FrameShape) (front piece : List ℕ) (b : ℕ) (more : List ℕ) (standing : Standing) (done : Done) → IsSpoken frame → spelling frame ≡ (front ++ piece) ++ b ∷ more
     → standing.begun ≡ front → standing.first ≡ false → has_ended standing.line ≡ false → Next chooser standing (Some (Piece piece)) done
     → done ≡ nothing (record standing { begun = front ++ piece; heard = standing.heard + length piece })
 middle_poll chooser frame front piece b more standing done spoken whole begun later runs next =

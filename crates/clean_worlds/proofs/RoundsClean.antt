@@ -60,7 +60,7 @@ waits_not Supplier scene waiting = refl
 waits_not Receiver scene waiting = refl
 
 -- the one frame is heard by its end, and none waits any more
-round_hears : (near : Role) (frame : FrameShape) (scene next : Scene) (made : List WorldStep) → scene.waiting ≡ (near, spelling frame) ∷ [] → IsRound scene made next
+pub round_hears : (near : Role) (frame : FrameShape) (scene next : Scene) (made : List WorldStep) → scene.waiting ≡ (near, spelling frame) ∷ [] → IsRound scene made next
     → Hears near (given.Bytes (spelling frame)) (with_waiting scene []) made next
 round_hears near frame scene next made waits round =
     let delivers = subst (λ (l : List (Role × List ℕ)). IsRoundOf l scene made next) waits round in
@@ -68,7 +68,7 @@ round_hears near frame scene next made waits round =
 
 module _ (chooser : Role → Chooser) (header : Role → Header) (is : (role : Role) → IsHeader (header role)) (near far : Role) (hall : Hall) (scene : Scene) (standing : Role → Option Standing)
     (shows : ShowsHall chooser header near far hall scene standing) (frame : FrameShape) (flight : hall.flight ≡ frame ∷ []) (goes : has_ended hall.near.standing.line ≡ false) where
-  one_waits : scene.waiting ≡ (near, spelling frame) ∷ []
+  pub one_waits : scene.waiting ≡ (near, spelling frame) ∷ []
   one_waits = shows.waiting ∙ ap (λ (l : List FrameShape). sent_to near (map spelling l)) flight
 
   step_behind : (next : Scene) (last : Role → Option Standing) → TakesFrame near (chooser near) (header near) hall.near.standing frame (with_waiting scene []) next (last near) → last far ≡ standing far

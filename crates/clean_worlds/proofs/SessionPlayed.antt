@@ -36,7 +36,7 @@ use Rattle.clean_worlds.proofs.TurnsPlayed.{turns_played}
 
 -- ---- behind the end of both ends no round is made
 
-none_runs : (near far : Role) (scene : Scene) → other near ≡ far → (side scene near).runs ≡ false → (side scene far).runs ≡ false → some_runs scene ≡ false
+pub none_runs : (near far : Role) (scene : Scene) → other near ≡ far → (side scene near).runs ≡ false → (side scene far).runs ≡ false → some_runs scene ≡ false
 none_runs Supplier far scene is near_off far_off =
     ap (λ (b : Bool). b || scene.receiver.runs) near_off ∙ ap (λ (r : Role). (side scene r).runs) is ∙ far_off
 none_runs Receiver far scene is near_off far_off =

@@ -31,6 +31,7 @@ use Rattle.clean_worlds.specs.CleanWorlds.{EndsInClean, IdsMatch, IsComplete, co
 use Rattle.clean_worlds.specs.WholeFrames.{Attends, GoWell}
 use Rattle.clean_worlds.specs.WorldHalls.{BothCome}
 use Rattle.clean_worlds.proofs.CleanPlayed.{plays_clean}
+use Rattle.clean_worlds.proofs.CleanForeseen.{clean_foreseen}
 use Rattle.clean_worlds.proofs.CleanUnhindered.{clean_unhindered}
 use Rattle.clean_worlds.proofs.NotedParts.{split_calls, split_comes, split_steps}
 use Rattle.clean_worlds.proofs.RunningKept.{RunningGo, running_hear, running_work}
@@ -165,6 +166,8 @@ module _ (world : WorldView) (played : HasPlayed world) (match : IdsMatch world.
         standing = last_at;
         refused = refused_at;
         well = λ free. clean_unhindered id other_id is_header.own is_header.peer (chooser_of world.script Supplier) (chooser_of world.script Receiver) state both.between played.last mid last_at
+            back hear (running_work mid both.between go) behind calls plays free;
+        foreseen = λ most free. clean_foreseen id other_id is_header.own is_header.peer (chooser_of world.script Supplier) (chooser_of world.script Receiver) most state both.between played.last mid last_at
             back hear (running_work mid both.between go) behind calls plays free;
         clean = clean;
         holds = λ well role now is.

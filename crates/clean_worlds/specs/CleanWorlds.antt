@@ -1,5 +1,5 @@
 -- Worlds whose last event is a clean one.
-use Rattle.std.specs.Prelude.{◌≡◌, false, List, ◌++◌, Option, Some}
+use Rattle.std.specs.Prelude.{◌≡◌, ℕ, false, List, ◌++◌, Option, Some}
 use Rattle.dsd_values.specs.declared.role.Role.{Role}
 use Rattle.dsd_values.specs.declared.role.Role.TheVariants.{Receiver, Supplier}
 use Rattle.dsd_station.specs.Logged.{Log, image_by}
@@ -21,6 +21,7 @@ use Rattle.cable_world.specs.declared.script.Script.{Script}
 use Rattle.clean_worlds.specs.CleanBeginnings.{PlaysClean}
 use Rattle.clean_worlds.specs.CleanPlays.{choosers, headers}
 use Rattle.clean_worlds.specs.Faultless.{IsUnhindered}
+use Rattle.clean_worlds.specs.Foreseen.{AreForeseen}
 use Rattle.clean_worlds.specs.WholeFrames.{GoWell}
 
 -- each end names the other as its peer
@@ -42,7 +43,7 @@ log_for handheld receiver Receiver = receiver
 abbrev pub come_to : Log → Log → List Noted → Role → State
 come_to handheld receiver noted role = state_after role (state_of (log_for handheld receiver role).calls) (steps_of noted)
 
--- The steps of these events and, behind them, those of a clean one. If nothing hinders the latter they go well. If they do, they are a clean session, both ends
+-- The steps of these events and, behind them, those of a clean one. If nothing hinders the latter, or it is foreseen that nothing does, they go well. If they do, they are a clean session, both ends
 -- stand behind it as the world tells, and each image holds the entries of its end's standing.
 pub record EndsInClean (events : List Event) (world : WorldView) : Type 0 where
   pub handheld : Log
@@ -59,6 +60,8 @@ pub record EndsInClean (events : List Event) (world : WorldView) : Type 0 where
   pub standing : Role → Option Standing
   pub refused : (role : Role) → refused_in (standing role) ≡ refused_by world role
   pub well : IsUnhindered (choosers (chooser_of world.script Supplier) (chooser_of world.script Receiver)) (headers world.script.ends.handheld.own world.script.ends.handheld.peer) (come_to handheld receiver before) between (steps_of behind)
+      → GoWell behind
+  pub foreseen : (most : ℕ) → AreForeseen most world.script.ends.handheld.own world.script.ends.handheld.peer (chooser_of world.script Supplier) (chooser_of world.script Receiver) (come_to handheld receiver before) between (steps_of behind)
       → GoWell behind
   pub clean : GoWell behind → PlaysClean world.script.ends.handheld.own world.script.ends.handheld.peer (chooser_of world.script Supplier) (chooser_of world.script Receiver) (come_to handheld receiver before) (steps_of behind) last standing
   pub holds : GoWell behind → (role : Role) → (now : Standing) → standing role ≡ Some now → Holds (header_of world.script role) now.desk.entries (image_by (side world.scene role).log)

@@ -8,3 +8,5 @@ pub mod Faultless
 pub mod CleanWorlds
 pub mod LeftLists
 pub mod CleanEndings
+pub mod Foreseen
+pub mod Finishing

@@ -12,11 +12,13 @@
 //! image of each end then holds what the session leaves at its desk.
 //!
 //! That the event goes well, so that no fault is answered and no call of it is refused, fails or stops, follows where nothing is armed before it that has not
-//! fallen, and the journals have room for what is signed and taken in it.
+//! fallen, and the journals have room for what is signed and taken in it. It can be foretold, from what both journals hold as the event opens its ends and from
+//! what both ends choose: where own turns from these lists speak few blocks and find room, the event goes well, and both ends finish.
 #![tactic(auto)]
 
 mod ending_laws;
 mod fault_laws;
+mod finishing_laws;
 mod frame_laws;
 mod healing_laws;
 mod history_laws;
@@ -31,6 +33,7 @@ pub use fault_laws::{
     runs_with_room_are_never_full, spared_calls_go_well, unarmed_scripts_leave_nothing_armed,
     unhindered_events_go_well, unhindered_worlds_end_well,
 };
+pub use finishing_laws::{foreseen_events_go_well, foretold_endings_finish};
 pub use frame_laws::frames_are_taken_whole;
 pub use healing_laws::{healed_deliveries_are_final, worlds_heal};
 pub use history_laws::{fronts_begin_lives, histories_leave_backed_lists};
