@@ -14,7 +14,7 @@ use crate::refusal::{Reason, Refusal};
 use crate::serving::refused;
 use crate::verdict::Verdict;
 use cable_world::{Script, World, WorldReport, open_world};
-use clean_worlds::clean_endings_settle;
+use clean_worlds::{clean_endings_settle, foretold_endings_finish};
 use dsd_record::DraftFault;
 use dsd_station::{ReadFault, Source, read_up_to};
 use transaction_set::SetReason;
@@ -125,6 +125,7 @@ fn finish(world: &mut World) -> Result<WorldReport, AllocError>
 {
     // What a clean event at the script's end leaves is known of each world that has played.
     clean_endings_settle();
+    foretold_endings_finish();
     match world.finish() {
         Ok(report) => Ok(report),
         Err(_) => Err(AllocError),

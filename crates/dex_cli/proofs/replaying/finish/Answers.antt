@@ -8,4 +8,6 @@ returns-in-Ok c = record {
   reported = c.in-Ok.ensures.report;
   settles = λ events. c.clean_endings_settle.ensures.lists c.finish.new.self events c.in-Ok.ensures.played;
   completes = c.clean_endings_settle.ensures.empty c.finish.new.self c.in-Ok.ensures.played;
+  heals = λ events most. c.foretold_endings_finish.ensures.lists c.finish.new.self events most c.in-Ok.ensures.played;
+  finalises = λ most. c.foretold_endings_finish.ensures.empty c.finish.new.self most c.in-Ok.ensures.played;
 }
