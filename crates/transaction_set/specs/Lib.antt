@@ -5,6 +5,7 @@ pub mod Extras
 pub mod SoFar
 pub mod Reasons
 pub mod Refusal
+pub mod Taking
 pub mod Grammar
 pub mod Numbers
 pub mod Closing

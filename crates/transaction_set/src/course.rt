@@ -13,6 +13,7 @@ ghost use Rattle.segments.specs.Elements.{kept_text};
 ghost use Rattle.transaction_set.specs.Numbers.{HasRoom};
 ghost use Rattle.dsd_values.specs.declared.extra.Extra.TheVariants.{Allow, Note};
 ghost use Rattle.transaction_set.specs.Closing.{IsClosed, is_closed};
+ghost use Rattle.transaction_set.specs.Taking.{in_set};
 ghost use Rattle.transaction_set.specs.Reasons.{Says, admission, allowance_reason, beside, has_line, item_reason, when, course_reason};
 
 use crate::allowance::read_allowance;
@@ -86,18 +87,25 @@ impl Course {
         })
     }
 
-    /// Whether such a segment may stand here, and what may come behind it.
+    /// Whether such a segment may stand at this place of its set, and what may come behind it.
     // Inlined, as `keep` is, at the reader of each set: so the form is known there.
     #[inline(always)]
     #[tactic(auto, unfolding(crate::specs::Reasons::admission))]
-    pub fn admit(&self, form: Form, kind: Kind, segment: &Segment<'_>) -> Result<Phase, SetFault>
-        ensures exact { Says result segment.now.start (admission form self.now.phase kind segment.now) (λ phase. next_phase self.now.phase kind form ≡ Some phase) }
-        ensures short { OnOk result (segment.now.start + length segment.now.bytes ≤ SET_BYTES) }
+    pub fn admit(
+        &self,
+        form: Form,
+        kind: Kind,
+        place: usize,
+        segment: &Segment<'_>,
+    ) -> Result<Phase, SetFault>
+        requires { place ≤ SET_BYTES }
+        ensures exact { Says result segment.now.start (admission form self.now.phase kind (in_set place segment.now)) (λ phase. next_phase self.now.phase kind form ≡ Some phase) }
+        ensures short { OnOk result (place + length segment.now.bytes ≤ SET_BYTES) }
     {
         let Some(phase) = self.phase.after(kind, form) else {
             return refuse(segment, SetReason::Order);
         };
-        if segment.end() > SET_BYTES {
+        if place + segment.bytes().len() > SET_BYTES {
             return refuse(segment, SetReason::Limit);
         }
         Ok(phase)
@@ -264,6 +272,14 @@ impl Course {
         ensures right { AreExtras false result.now }
     {
         self.extras.as_slice()
+    }
+
+    /// Whether the trailer has come.
+    #[inline(always)]
+    pub fn is_closed(&self) -> bool
+        ensures { result ≡ is_closed self.now }
+    {
+        self.phase.is_done() && self.signature.is_some()
     }
 
     /// What the set stated, where it is whole.

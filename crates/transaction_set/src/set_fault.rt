@@ -1,6 +1,7 @@
 //! Why a text is no set.
 
 ghost use Rattle.std.specs.Prelude.{◌≡◌};
+ghost use Rattle.transaction_set.specs.Taking.{told_at};
 ghost use Rattle.transaction_set.specs.declared.set_fault.SetFault.TheVariants.{Memory as WantOfMemory};
 
 use dsd_values::{Check, DsdNumber, Memory, ValueFault};
@@ -50,6 +51,18 @@ pub enum SetFault {
     /// Memory is wanting.
     #[error("no memory")]
     Memory,
+}
+
+impl SetFault {
+    /// The same fault, told at this place.
+    pub fn told_at(self, place: usize) -> SetFault
+        ensures { result ≡ told_at place self }
+    {
+        match self {
+            SetFault::Refused { reason, .. } => SetFault::Refused { place, reason },
+            SetFault::Memory => SetFault::Memory,
+        }
+    }
 }
 
 impl From<Memory> for SetFault {
