@@ -1,20 +1,16 @@
 //! Reading an answer from its text.
 
 ghost use Rattle.std.specs.Prelude.{◌≡◌, length, IfOk, None};
-ghost use Rattle.transaction_set.specs.Refusal.{Answers, IsWithin, said_by};
-ghost use Rattle.segments.specs.SegmentCut.{cut_of};
+ghost use Rattle.transaction_set.specs.Refusal.{Answers, IsWithin};
 ghost use Rattle.transaction_set.specs.declared.seal.Seal.{Seal as SealValue};
 ghost use Rattle.adjustment_895.specs.AnswerRecord.{AnswerRecord};
 ghost use Rattle.adjustment_895.specs.AnswerText.{Is895};
-ghost use Rattle.adjustment_895.specs.Said.{nothing};
-ghost use Rattle.adjustment_895.specs.FirstRefusal.{judged, refusal_of};
-ghost use Rattle.adjustment_895.specs.ReadParts.{IsReadFrom};
+ghost use Rattle.adjustment_895.specs.FirstRefusal.{refusal_of};
 
-use crate::answer::{Answer895, seal_up};
-use crate::parts::Parts;
-use crate::reader::Reader;
+use crate::answer::Answer895;
+use crate::taking::Reader895;
 use segments::SegmentReader;
-use transaction_set::{Seal, SetFault, unreadable};
+use transaction_set::{Seal, SetFault};
 use std::alloc::Global;
 
 /// Reads an answer: its value and its seal.
@@ -29,26 +25,15 @@ pub fn read_895(alloc: Global, text: &[u8]) -> Result<(Answer895, Seal), SetFaul
     ensures exact { Answers result (refusal_of text.now) (λ _. Unit {0}) }
     ensures within { IsWithin result (length text.now) }
 {
-    let parts = read_parts(alloc, text)?;
-    Ok(seal_up(parts))
-}
-
-/// Reads segment after segment.
-fn read_parts(alloc: Global, text: &[u8]) -> Result<Parts, SetFault>
-    ensures within { IsWithin result (length text.now) }
-    ensures exact { Answers result (refusal_of text.now) (IsReadFrom (said_by judged nothing (cut_of text.now).segments)) }
-{
-    let mut machine = Reader::new(alloc)?;
+    let mut reader = Reader895::new(alloc)?;
     let mut segments = SegmentReader::new(text);
-    let mut place = 0;
     loop {
         match segments.next() {
             Ok(Some(segment)) => {
-                machine.step(&segment)?;
-                place = segment.end();
+                reader.take(&segment)?;
             }
-            Ok(None) => return machine.finish(place),
-            Err(fault) => return unreadable(place, fault),
+            Ok(None) => return reader.finish(),
+            Err(fault) => return Err(reader.broken(fault)),
         }
     }
 }

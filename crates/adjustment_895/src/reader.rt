@@ -1,10 +1,11 @@
 //! The reader of an answer, pushed one segment at a time.
 
-ghost use Rattle.std.specs.Prelude.{◌≡◌, ◌+◌, ◌≤◌, length, IfOk, OnOk, None, Some};
+ghost use Rattle.std.specs.Prelude.{◌≡◌, ◌+◌, ◌≤◌, length, IfOk, OnErr, OnOk, None, Some};
 ghost use Rattle.segments.specs.Elements.{◌or_else◌};
 ghost use Rattle.transaction_set.specs.Kinds.{next_phase};
 ghost use Rattle.transaction_set.specs.Reasons.{Says, admission};
 ghost use Rattle.transaction_set.specs.Refusal.{Answers, ended_at};
+ghost use Rattle.transaction_set.specs.Taking.{in_set};
 ghost use Rattle.adjustment_895.specs.HeadTable.{head_in};
 ghost use Rattle.adjustment_895.specs.Said.{nothing, head_reason, level_in, level_reason, own_reason, reason_of, kept_by, after, is_whole};
 ghost use Rattle.adjustment_895.specs.ReadParts.{IsReadFrom};
@@ -45,15 +46,17 @@ impl Reader {
         })
     }
 
-    /// Takes one more segment.
+    /// Takes one more segment, which starts at this place of the set.
     #[tactic(auto, unfolding(crate::specs::Said::kept_by, crate::specs::Said::reason_of, transaction_set::specs::SoFar::kept, transaction_set::specs::SoFar::moved))]
-    pub fn step(&mut self, segment: &Segment<'_>) -> Result<(), SetFault>
-        requires { self.old.course.count ≤ SET_BYTES }
-        ensures exact { Says result segment.now.start (reason_of self.old segment.now) (λ _. self.new ≡ after self.old segment.now) }
-        ensures short { OnOk result (segment.now.start + length segment.now.bytes ≤ SET_BYTES) }
+    pub fn step(&mut self, place: usize, segment: &Segment<'_>) -> Result<(), SetFault>
+        requires count { self.old.course.count ≤ SET_BYTES }
+        requires placed { place ≤ SET_BYTES }
+        ensures exact { Says result segment.now.start (reason_of self.old (in_set place segment.now)) (λ _. self.new ≡ after self.old (in_set place segment.now)) }
+        ensures short { OnOk result (place + length segment.now.bytes ≤ SET_BYTES) }
+        ensures err { OnErr result (self.new.course.count ≡ self.old.course.count) }
     {
         let kind = Kind::of(Form::Answer, segment);
-        let phase = self.admit(kind, segment)?;
+        let phase = self.admit(kind, place, segment)?;
         match self.keep(kind, segment) {
             Ok(()) => {
                 self.course.advance(phase, segment);
@@ -65,14 +68,15 @@ impl Reader {
 
     /// Whether such a segment may stand here, and what may come behind it: in an answer of level 0 no loop may.
     #[tactic(auto, unfolding(transaction_set::specs::Reasons::admission))]
-    fn admit(&self, kind: Kind, segment: &Segment<'_>) -> Result<Phase, SetFault>
-        ensures exact { Says result segment.now.start (level_reason kind self.now.head or_else admission forms.Answer self.now.course.phase kind segment.now)
+    fn admit(&self, kind: Kind, place: usize, segment: &Segment<'_>) -> Result<Phase, SetFault>
+        requires { place ≤ SET_BYTES }
+        ensures exact { Says result segment.now.start (level_reason kind self.now.head or_else admission forms.Answer self.now.course.phase kind (in_set place segment.now))
             (λ phase. next_phase self.now.course.phase kind forms.Answer ≡ Some phase) }
-        ensures short { OnOk result (segment.now.start + length segment.now.bytes ≤ SET_BYTES) }
+        ensures short { OnOk result (place + length segment.now.bytes ≤ SET_BYTES) }
     {
         match kind {
             Kind::LoopStart if self.level() == 0 => refuse(segment, SetReason::Order),
-            _ => self.course.admit(Form::Answer, kind, segment),
+            _ => self.course.admit(Form::Answer, kind, place, segment),
         }
     }
 
@@ -109,6 +113,14 @@ impl Reader {
     {
         self.head = Some(head(segment)?);
         Ok(())
+    }
+
+    /// Whether the set is whole.
+    #[inline(always)]
+    pub fn is_whole(&self) -> bool
+        ensures { result ≡ is_whole self.now }
+    {
+        self.course.is_closed() && self.head.is_some()
     }
 
     /// What was read, where the set is whole; the place is the text's length.

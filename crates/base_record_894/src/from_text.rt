@@ -1,20 +1,16 @@
 //! Reading a base record from its text.
 
 ghost use Rattle.std.specs.Prelude.{◌≡◌, length, IfOk, None};
-ghost use Rattle.transaction_set.specs.Refusal.{Answers, IsWithin, said_by};
-ghost use Rattle.segments.specs.SegmentCut.{cut_of};
+ghost use Rattle.transaction_set.specs.Refusal.{Answers, IsWithin};
 ghost use Rattle.transaction_set.specs.declared.seal.Seal.{Seal as SealValue};
 ghost use Rattle.base_record_894.specs.BaseRecord.{BaseRecord};
 ghost use Rattle.base_record_894.specs.RecordText.{Is894};
-ghost use Rattle.base_record_894.specs.Said.{nothing};
-ghost use Rattle.base_record_894.specs.FirstRefusal.{judged, refusal_of};
-ghost use Rattle.base_record_894.specs.ReadParts.{IsReadFrom};
+ghost use Rattle.base_record_894.specs.FirstRefusal.{refusal_of};
 
-use crate::base::{Base, seal_up};
-use crate::parts::Parts;
-use crate::reader::Reader;
+use crate::base::Base;
+use crate::taking::Reader894;
 use segments::SegmentReader;
-use transaction_set::{Seal, SetFault, unreadable};
+use transaction_set::{Seal, SetFault};
 use std::alloc::Global;
 
 /// Reads a base record: its value and its seal.
@@ -29,26 +25,15 @@ pub fn read_894(alloc: Global, text: &[u8]) -> Result<(Base, Seal), SetFault>
     ensures exact { Answers result (refusal_of text.now) (λ _. Unit {0}) }
     ensures within { IsWithin result (length text.now) }
 {
-    let parts = read_parts(alloc, text)?;
-    Ok(seal_up(parts))
-}
-
-/// Reads segment after segment.
-fn read_parts(alloc: Global, text: &[u8]) -> Result<Parts, SetFault>
-    ensures within { IsWithin result (length text.now) }
-    ensures exact { Answers result (refusal_of text.now) (IsReadFrom (said_by judged nothing (cut_of text.now).segments)) }
-{
-    let mut machine = Reader::new(alloc)?;
+    let mut reader = Reader894::new(alloc)?;
     let mut segments = SegmentReader::new(text);
-    let mut place = 0;
     loop {
         match segments.next() {
             Ok(Some(segment)) => {
-                machine.step(&segment)?;
-                place = segment.end();
+                reader.take(&segment)?;
             }
-            Ok(None) => return machine.finish(place),
-            Err(fault) => return unreadable(place, fault),
+            Ok(None) => return reader.finish(),
+            Err(fault) => return Err(reader.broken(fault)),
         }
     }
 }

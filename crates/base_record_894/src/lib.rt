@@ -9,6 +9,7 @@ mod notes;
 mod parts;
 mod reader;
 mod rows;
+mod taking;
 mod writing;
 mod writing_laws;
 
@@ -16,5 +17,6 @@ pub use base::Base;
 pub use from_text::read_894;
 pub use head::BaseHead;
 pub use notes::Notes;
+pub use taking::Reader894;
 pub use writing::{write_894, write_sealed_894};
 pub use writing_laws::written_is_read;

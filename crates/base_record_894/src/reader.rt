@@ -1,8 +1,9 @@
 //! The reader of a base record, pushed one segment at a time.
 
-ghost use Rattle.std.specs.Prelude.{◌≡◌, ℕ, ◌+◌, ◌<◌, ◌≤◌, List, [], ◌∷◌, length, IfOk, OnOk, None, Some};
+ghost use Rattle.std.specs.Prelude.{◌≡◌, ℕ, ◌+◌, ◌<◌, ◌≤◌, List, [], ◌∷◌, length, IfOk, OnErr, OnOk, None, Some};
 ghost use Rattle.transaction_set.specs.Reasons.{Says};
 ghost use Rattle.transaction_set.specs.Refusal.{Answers, ended_at};
+ghost use Rattle.transaction_set.specs.Taking.{in_set};
 ghost use Rattle.base_record_894.specs.Said.{nothing, own_reason, reason_of, rows_reason, kept_by, after, is_whole};
 ghost use Rattle.base_record_894.specs.ReadParts.{IsReadFrom};
 ghost use Rattle.transaction_set.specs.declared.kind.Kind.TheVariants as kinds;
@@ -44,15 +45,17 @@ impl Reader {
         })
     }
 
-    /// Takes one more segment.
+    /// Takes one more segment, which starts at this place of the set.
     #[tactic(auto, unfolding(crate::specs::Said::kept_by, crate::specs::Said::reason_of, transaction_set::specs::SoFar::kept, transaction_set::specs::SoFar::moved))]
-    pub fn step(&mut self, segment: &Segment<'_>) -> Result<(), SetFault>
-        requires { self.old.course.count ≤ SET_BYTES }
-        ensures exact { Says result segment.now.start (reason_of self.old segment.now) (λ _. self.new ≡ after self.old segment.now) }
-        ensures short { OnOk result (segment.now.start + length segment.now.bytes ≤ SET_BYTES) }
+    pub fn step(&mut self, place: usize, segment: &Segment<'_>) -> Result<(), SetFault>
+        requires count { self.old.course.count ≤ SET_BYTES }
+        requires placed { place ≤ SET_BYTES }
+        ensures exact { Says result segment.now.start (reason_of self.old (in_set place segment.now)) (λ _. self.new ≡ after self.old (in_set place segment.now)) }
+        ensures short { OnOk result (place + length segment.now.bytes ≤ SET_BYTES) }
+        ensures err { OnErr result (self.new.course.count ≡ self.old.course.count) }
     {
         let kind = Kind::of(Form::Base, segment);
-        let phase = self.course.admit(Form::Base, kind, segment)?;
+        let phase = self.course.admit(Form::Base, kind, place, segment)?;
         match self.keep(kind, segment) {
             Ok(()) => {
                 self.course.advance(phase, segment);
@@ -107,6 +110,14 @@ impl Reader {
     {
         let course = &self.course;
         compare_totals(segment, course.totals(), course.lines(), course.extras())
+    }
+
+    /// Whether the set is whole.
+    #[inline(always)]
+    pub fn is_whole(&self) -> bool
+        ensures { result ≡ is_whole self.now }
+    {
+        self.course.is_closed() && self.head.is_some()
     }
 
     /// What was read, where the set is whole; the place is the text's length.

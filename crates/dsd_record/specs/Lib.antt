@@ -1,6 +1,7 @@
 pub mod LineChanges
 pub mod SetTexts
 pub mod ReadSets
+pub mod TakenSets
 pub mod Version
 pub mod Naming
 pub mod Applying

@@ -10,6 +10,7 @@ mod from_text;
 mod laws;
 mod price_after;
 mod record;
+mod set_reader;
 mod set_view;
 mod version_laws;
 
@@ -23,6 +24,7 @@ pub use laws::{
 };
 pub use price_after::ChangeFault;
 pub use record::DsdRecord;
+pub use set_reader::SetReader;
 pub use set_view::SetView;
 pub use version_laws::{
     answers_at_their_price_apply, answers_without_fault_apply, chosen_lines_can_be_stated,

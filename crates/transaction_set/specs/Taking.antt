@@ -1,5 +1,5 @@
 -- A reader of a set that takes its segments one after another. It counts places from where its first segment starts.
-use Rattle.std.specs.Prelude.{◌≡◌, ◌×◌, ℕ, ◌+◌, Bool, List, [], ◌∷◌, length, Option, Some, None, Result, Ok, Err}
+use Rattle.std.specs.Prelude.{◌≡◌, ℕ, ◌+◌, Bool, List, [], ◌∷◌, length, Option, Some, None, Result, Ok, Err}
 use Rattle.segments.specs.Views.{Seg}
 use Rattle.segments.specs.SegmentSpelling.{SpellsSegments}
 use Rattle.segments.specs.declared.segment_fault.SegmentFault.{SegmentFault}
@@ -81,3 +81,8 @@ pub record IsTaken {M : Type 0} (j : Judged M) (start : M) (text : List ℕ) (re
 abbrev pub broken_by : {M : Type 0} → Taken M → SegmentFault → Option SetFault → SetFault
 broken_by reader fault (Some stopped) = stopped
 broken_by reader fault None = errors.Refused reader.size (reasons.Segment fault)
+
+-- such a fault tells this refusal. Want of memory is free
+abbrev pub IsFaultOf : SetFault → Option Refusal → Type 0
+IsFaultOf (errors.Refused place reason) refused = refused ≡ Some (record { place = place; reason = reason })
+IsFaultOf errors.Memory refused = Unit {0}
