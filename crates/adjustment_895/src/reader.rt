@@ -1,6 +1,6 @@
 //! The reader of an answer, pushed one segment at a time.
 
-ghost use Rattle.std.specs.Prelude.{◌≡◌, ◌+◌, ◌≤◌, length, IfOk, OnErr, OnOk, None, Some};
+ghost use Rattle.std.specs.Prelude.{◌≡◌, ◌+◌, ◌≤◌, length, IfOk, OnOk, None, Some};
 ghost use Rattle.segments.specs.Elements.{◌or_else◌};
 ghost use Rattle.transaction_set.specs.Kinds.{next_phase};
 ghost use Rattle.transaction_set.specs.Reasons.{Says, admission};
@@ -53,7 +53,6 @@ impl Reader {
         requires placed { place ≤ SET_BYTES }
         ensures exact { Says result segment.now.start (reason_of self.old (in_set place segment.now)) (λ _. self.new ≡ after self.old (in_set place segment.now)) }
         ensures short { OnOk result (place + length segment.now.bytes ≤ SET_BYTES) }
-        ensures err { OnErr result (self.new.course.count ≡ self.old.course.count) }
     {
         let kind = Kind::of(Form::Answer, segment);
         let phase = self.admit(kind, place, segment)?;

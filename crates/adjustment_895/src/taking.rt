@@ -1,11 +1,11 @@
 //! Reading an answer whose segments come one after another.
 
 ghost use Rattle.std.specs.Prelude.{◌≡◌, ◌++◌, ℕ, List, [], length, Err, IfOk, None};
-ghost use Rattle.segments.specs.SegmentCut.{next_of};
+ghost use Rattle.segments.specs.SegmentCut.{cut_of, next_of};
 ghost use Rattle.segments.specs.Views.{Left};
 ghost use Rattle.segments.specs.declared.segment_fault.SegmentFault.{SegmentFault as SegmentFaultValue};
-ghost use Rattle.transaction_set.specs.Refusal.{Answers, IsWithin};
-ghost use Rattle.transaction_set.specs.Taking.{IsFaultOf, IsTaken, Takes, broken_by, none_taken, told_at};
+ghost use Rattle.transaction_set.specs.Refusal.{Answers, IsWithin, said_by};
+ghost use Rattle.transaction_set.specs.Taking.{IsFaultOf, IsTaken, Takes, broken_by, none_taken};
 ghost use Rattle.transaction_set.specs.declared.seal.Seal.{Seal as SealValue};
 ghost use Rattle.adjustment_895.specs.AnswerRecord.{AnswerRecord};
 ghost use Rattle.adjustment_895.specs.AnswerText.{Is895};
@@ -13,6 +13,7 @@ ghost use Rattle.adjustment_895.specs.Said.{nothing};
 ghost use Rattle.adjustment_895.specs.FirstRefusal.{judged, refusal_of};
 
 use crate::answer::{Answer895, seal_up};
+use crate::parts::Parts;
 use crate::reader::Reader;
 use dsd_values::Memory;
 use segments::{Segment, SegmentFault};
@@ -31,7 +32,7 @@ pub struct Reader895 {
 impl Model for Reader895 {
     ghost use Rattle.std.specs.Prelude.{◌≤◌, ℕ, List};
     ghost use Rattle.dsd_values.specs.declared.limits.TheConstants.{SET_BYTES};
-    ghost use Rattle.transaction_set.specs.Taking.{IsTaken, Taken};
+    ghost use Rattle.transaction_set.specs.Taking.{HasCounted, IsTaken, Taken};
     ghost use Rattle.adjustment_895.specs.FirstRefusal.{judged};
     ghost use Rattle.adjustment_895.specs.Said.{Said, nothing};
 
@@ -39,7 +40,7 @@ impl Model for Reader895 {
 
     ghost view = { λ r. record { said = r.reader; size = r.size; fault = r.fault } };
 
-    ghost invariant = { λ r. (r.reader.course.count ≤ r.size) × (r.size ≤ SET_BYTES) × ((text : List ℕ) × IsTaken judged nothing text (record { said = r.reader; size = r.size; fault = r.fault })) };
+    ghost invariant = { λ r. HasCounted r.fault r.reader.course.count r.size × (r.size ≤ SET_BYTES) × ((text : List ℕ) × IsTaken judged nothing text (record { said = r.reader; size = r.size; fault = r.fault })) };
 }
 
 impl Reader895 {
@@ -71,7 +72,10 @@ impl Reader895 {
                 self.size += segment.bytes().len();
                 Ok(self.reader.is_whole())
             }
-            Err(fault) => Err(self.stop(fault)),
+            Err(fault) => {
+                self.fault = Some(fault.told_at(self.size));
+                Err(fault.told_at(self.size))
+            }
         }
     }
 
@@ -87,10 +91,20 @@ impl Reader895 {
         ensures exact { (text : List ℕ) → IsTaken judged nothing text self → Answers result (refusal_of text) (λ _. Unit {0}) }
         ensures within { (text : List ℕ) → IsTaken judged nothing text self → IsWithin result (length text) }
     {
+        let parts = self.parts()?;
+        Ok(seal_up(parts))
+    }
+
+    /// The parts of what was read.
+    fn parts(self) -> Result<Parts, SetFault>
+        ensures exact { (text : List ℕ) → IsTaken judged nothing text self → Answers result (refusal_of text) (IsReadFrom (said_by judged nothing (cut_of text).segments)) }
+        ensures within { (text : List ℕ) → IsTaken judged nothing text self → IsWithin result (length text) }
+        ensures right { IfOk result (λ parts. IsRead (record_of parts)) }
+    {
         let Reader895 { reader, size, fault } = self;
         match fault {
             Some(fault) => Err(fault),
-            None => Ok(seal_up(reader.finish(size)?)),
+            None => reader.finish(size),
         }
     }
 
@@ -109,15 +123,5 @@ impl Reader895 {
                 reason: SetReason::Segment(fault),
             },
         }
-    }
-
-    /// Stops with this fault, told at the place that was reached.
-    #[inline(never)]
-    fn stop(&mut self, fault: SetFault) -> SetFault
-        ensures { result ≡ told_at self.old.size fault }
-    {
-        let fault = fault.told_at(self.size);
-        self.fault = Some(fault);
-        fault
     }
 }

@@ -1,6 +1,6 @@
 //! The reader of a base record, pushed one segment at a time.
 
-ghost use Rattle.std.specs.Prelude.{◌≡◌, ℕ, ◌+◌, ◌<◌, ◌≤◌, List, [], ◌∷◌, length, IfOk, OnErr, OnOk, None, Some};
+ghost use Rattle.std.specs.Prelude.{◌≡◌, ℕ, ◌+◌, ◌<◌, ◌≤◌, List, [], ◌∷◌, length, IfOk, OnOk, None, Some};
 ghost use Rattle.transaction_set.specs.Reasons.{Says};
 ghost use Rattle.transaction_set.specs.Refusal.{Answers, ended_at};
 ghost use Rattle.transaction_set.specs.Taking.{in_set};
@@ -52,7 +52,6 @@ impl Reader {
         requires placed { place ≤ SET_BYTES }
         ensures exact { Says result segment.now.start (reason_of self.old (in_set place segment.now)) (λ _. self.new ≡ after self.old (in_set place segment.now)) }
         ensures short { OnOk result (place + length segment.now.bytes ≤ SET_BYTES) }
-        ensures err { OnErr result (self.new.course.count ≡ self.old.course.count) }
     {
         let kind = Kind::of(Form::Base, segment);
         let phase = self.course.admit(Form::Base, kind, place, segment)?;

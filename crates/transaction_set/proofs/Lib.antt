@@ -27,3 +27,5 @@ pub mod Plain
 pub mod Making
 pub mod WrittenSets
 pub mod RightItems
+pub mod Taking
+pub mod Placed

@@ -1,5 +1,5 @@
 -- A reader of a set that takes its segments one after another. It counts places from where its first segment starts.
-use Rattle.std.specs.Prelude.{◌≡◌, ℕ, ◌+◌, Bool, List, [], ◌∷◌, length, Option, Some, None, Result, Ok, Err}
+use Rattle.std.specs.Prelude.{◌≡◌, ℕ, ◌+◌, ◌≤◌, Bool, List, [], ◌∷◌, length, Option, Some, None, Result, Ok, Err}
 use Rattle.segments.specs.Views.{Seg}
 use Rattle.segments.specs.SegmentSpelling.{SpellsSegments}
 use Rattle.segments.specs.declared.segment_fault.SegmentFault.{SegmentFault}
@@ -74,6 +74,11 @@ pub record IsTaken {M : Type 0} (j : Judged M) (start : M) (text : List ℕ) (re
   pub segments : List Seg
   pub spelled : SpellsSegments 0 segments text
   pub stands : StandsWith j start segments text reader reader.fault
+
+-- while a reader has not stopped, it has taken no more segments than bytes
+abbrev pub HasCounted : Option SetFault → ℕ → ℕ → Type 0
+HasCounted None count size = count ≤ size
+HasCounted (Some fault) count size = Unit {0}
 
 -- ---- the end
 

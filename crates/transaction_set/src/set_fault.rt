@@ -55,11 +55,15 @@ pub enum SetFault {
 
 impl SetFault {
     /// The same fault, told at this place.
-    pub fn told_at(self, place: usize) -> SetFault
-        ensures { result ≡ told_at place self }
+    #[inline(never)]
+    pub fn told_at(&self, place: usize) -> SetFault
+        ensures { result ≡ told_at place self.now }
     {
         match self {
-            SetFault::Refused { reason, .. } => SetFault::Refused { place, reason },
+            SetFault::Refused { reason, .. } => SetFault::Refused {
+                place,
+                reason: *reason,
+            },
             SetFault::Memory => SetFault::Memory,
         }
     }
