@@ -4,3 +4,4 @@ pub mod FoundOnly
 pub mod OneAnswer
 pub mod WrittenBack
 pub mod Made
+pub mod Steps

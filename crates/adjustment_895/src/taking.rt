@@ -8,9 +8,10 @@ ghost use Rattle.transaction_set.specs.Refusal.{Answers, IsWithin, said_by};
 ghost use Rattle.transaction_set.specs.Taking.{IsFaultOf, IsTaken, Takes, broken_by, none_taken};
 ghost use Rattle.transaction_set.specs.declared.seal.Seal.{Seal as SealValue};
 ghost use Rattle.adjustment_895.specs.AnswerRecord.{AnswerRecord};
-ghost use Rattle.adjustment_895.specs.AnswerText.{Is895};
+ghost use Rattle.adjustment_895.specs.AnswerText.{Is895, IsAnswer};
 ghost use Rattle.adjustment_895.specs.Said.{nothing};
 ghost use Rattle.adjustment_895.specs.FirstRefusal.{judged, refusal_of};
+ghost use Rattle.adjustment_895.specs.ReadParts.{IsReadFrom, answer_of};
 
 use crate::answer::{Answer895, seal_up};
 use crate::parts::Parts;
@@ -64,12 +65,13 @@ impl Reader895 {
         // The bytes of the segment stand behind all that was taken.
         ensures taken { (text : List ℕ) → IsTaken judged nothing text self.old → IsTaken judged nothing (text ++ segment.now.bytes) self.new }
     {
+        let size = segment.bytes().len();
         if let Some(fault) = self.fault {
             return Err(fault);
         }
         match self.reader.step(self.size, segment) {
             Ok(()) => {
-                self.size += segment.bytes().len();
+                self.size += size;
                 Ok(self.reader.is_whole())
             }
             Err(fault) => {
@@ -99,7 +101,7 @@ impl Reader895 {
     fn parts(self) -> Result<Parts, SetFault>
         ensures exact { (text : List ℕ) → IsTaken judged nothing text self → Answers result (refusal_of text) (IsReadFrom (said_by judged nothing (cut_of text).segments)) }
         ensures within { (text : List ℕ) → IsTaken judged nothing text self → IsWithin result (length text) }
-        ensures right { IfOk result (λ parts. IsRead (record_of parts)) }
+        ensures right { IfOk result (λ parts. IsAnswer (answer_of parts)) }
     {
         let Reader895 { reader, size, fault } = self;
         match fault {

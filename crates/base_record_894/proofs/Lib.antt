@@ -5,3 +5,4 @@ pub mod OneRecord
 pub mod Totalled
 pub mod WrittenBack
 pub mod Made
+pub mod Steps

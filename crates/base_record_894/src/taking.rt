@@ -8,9 +8,10 @@ ghost use Rattle.transaction_set.specs.Refusal.{Answers, IsWithin, said_by};
 ghost use Rattle.transaction_set.specs.Taking.{IsFaultOf, IsTaken, Takes, broken_by, none_taken};
 ghost use Rattle.transaction_set.specs.declared.seal.Seal.{Seal as SealValue};
 ghost use Rattle.base_record_894.specs.BaseRecord.{BaseRecord};
-ghost use Rattle.base_record_894.specs.RecordText.{Is894};
+ghost use Rattle.base_record_894.specs.RecordText.{Is894, IsBase};
 ghost use Rattle.base_record_894.specs.Said.{nothing};
 ghost use Rattle.base_record_894.specs.FirstRefusal.{judged, refusal_of};
+ghost use Rattle.base_record_894.specs.ReadParts.{IsReadFrom, record_of};
 
 use crate::base::{Base, seal_up};
 use crate::parts::Parts;
@@ -64,12 +65,13 @@ impl Reader894 {
         // The bytes of the segment stand behind all that was taken.
         ensures taken { (text : List ℕ) → IsTaken judged nothing text self.old → IsTaken judged nothing (text ++ segment.now.bytes) self.new }
     {
+        let size = segment.bytes().len();
         if let Some(fault) = self.fault {
             return Err(fault);
         }
         match self.reader.step(self.size, segment) {
             Ok(()) => {
-                self.size += segment.bytes().len();
+                self.size += size;
                 Ok(self.reader.is_whole())
             }
             Err(fault) => {

@@ -6,8 +6,9 @@ use Rattle.segments.specs.SegmentSpelling.{IsFront, SpellsSegment, SpellsSegment
 use Rattle.segments.specs.declared.segment_fault.SegmentFault.{SegmentFault}
 use Rattle.segments.proofs.Complete.{front_is}
 use Rattle.segments.proofs.Spelled.{next_of-end}
+use Rattle.transaction_set.specs.Reasons.{Says}
 use Rattle.transaction_set.specs.Refusal.{Answers, IsWithin, Judged, Refusal, ended_at, first_refusal, refused_at, said_by}
-use Rattle.transaction_set.specs.Taking.{AreRight, IsFaultOf, IsKept, IsTaken, StandsWith, Taken, Takes, TakesBehind, broken_by, first_reason, in_set, none_taken, taken_with}
+use Rattle.transaction_set.specs.Taking.{AreRight, IsFaultOf, IsKept, IsTaken, StandsWith, Taken, Takes, TakesBehind, broken_by, first_reason, in_set, none_taken, taken_with, told_at}
 use Rattle.transaction_set.specs.declared.set_fault.SetFault.{SetFault}
 use Rattle.transaction_set.specs.declared.set_fault.SetFault.TheVariants as errors
 use Rattle.transaction_set.specs.declared.set_fault.SetReason.{SetReason}
@@ -235,6 +236,27 @@ module _ {M : Type 0} (j : Judged M) (start : M) where
     stands = stands_on taken.segments text old new seg old.fault answer taken.stands refl takes;
   }
 
+  -- as the body of a reader has it
+  pub right_next : (m new : M) (size n : ℕ) (fault : Option SetFault) (seg : Seg) → fault ≡ None → SpellsSegment seg → (j.reason m (in_set size seg) ≡ None) × (new ≡ j.after m (in_set size seg)) → n ≡ size + length seg.bytes
+      → (text : List ℕ) → IsTaken j start text (record { said = m; size = size; fault = fault }) → IsTaken j start (text ++ seg.bytes) (record { said = new; size = n; fault = fault })
+  right_next m new size n (Some f) seg none is right long text taken = cc
+  right_next m new size n None seg none is right long text taken =
+      taken_more text (record { said = m; size = size; fault = None }) (record { said = new; size = n; fault = None }) seg (Ok (j.whole new)) is
+      ((right.0, (refl, ap (λ (u : M). record { said = u; size = n; fault = None }) right.1 ∙ ap (λ (k : ℕ). record { said = j.after m (in_set size seg); size = k; fault = None }) long)), refl) taken
+
+  pub refused_next : (X : Type 0) (m new : M) (size : ℕ) (fault : Option SetFault) (e told : SetFault) (place : ℕ) (seg : Seg) (P : X → Type 0) → fault ≡ None → SpellsSegment seg
+      → Says (let u : Result X SetFault = Err e in u) place (j.reason m (in_set size seg)) P → told ≡ told_at size e
+      → (text : List ℕ) → IsTaken j start text (record { said = m; size = size; fault = fault }) → IsTaken j start (text ++ seg.bytes) (record { said = new; size = size; fault = Some told })
+  refused_next X m new size (Some f) e told place seg P none is says same text taken = cc
+  refused_next X m new size None errors.Memory told place seg P none is says same text taken =
+      taken_more text (record { said = m; size = size; fault = None }) (record { said = new; size = size; fault = Some told }) seg (Err errors.Memory) is (tt, ap (λ (f : SetFault). Some f) same) taken
+  refused_next X m new size None (errors.Refused at why) told place seg P none is says same text taken =
+      taken_more text (record { said = m; size = size; fault = None }) (record { said = new; size = size; fault = Some told }) seg (Err (errors.Refused size why)) is ((refl, says.1), ap (λ (f : SetFault). Some f) same) taken
+
+  pub stopped_next : (old : Taken M) (f : SetFault) (seg : Seg) → old.fault ≡ Some f → SpellsSegment seg → (text : List ℕ) → IsTaken j start text old → IsTaken j start (text ++ seg.bytes) old
+  stopped_next old f seg is spelled text taken =
+      taken_more text old old seg (Err f) spelled (subst (λ (o : Option SetFault). TakesBehind j o old (in_set old.size seg) (Err f) old) (sym is) (refl, refl)) taken
+
   -- ---- the end, and what follows
 
   are_right : (text : List ℕ) (t : Taken M) (taken : IsTaken j start text t) → t.fault ≡ None → AreRight j start taken.segments text t
@@ -328,30 +350,33 @@ module _ {M : Type 0} (j : Judged M) (start : M) where
       by_fault None is (says, kept) = kept
 
   pub refused_in : (X : Type 0) (text : List ℕ) (reader : Taken M) (left : Left) (r : Result X SetFault) (e : SetFault) (P : X → Type 0) → StandsIn text reader left → reader.fault ≡ Some e → r ≡ Err e
-      → Answers r (first_refusal j start text) P × IsWithin r (length text)
-  refused_in X text reader left r e P s is same = (
-    subst (λ (u : Result X SetFault). Answers u (first_refusal j start text) P) (sym same)
-        (tells X e (first_refusal j start text) P (subst (λ (l : List ℕ). IsFaultOf e (first_refusal j start l)) (sym s.joined) (stopped s.done left.rest reader e s.taken is))),
-    subst (λ (u : Result X SetFault). IsWithin u (length text)) (sym same)
-        (within_more X e (length s.done) (length text) (stopped_within X s.done reader e s.taken is) (done_within text reader left s)),
-  )
+      → Answers r (first_refusal j start text) P
+  refused_in X text reader left r e P s is same =
+      subst (λ (u : Result X SetFault). Answers u (first_refusal j start text) P) (sym same)
+          (tells X e (first_refusal j start text) P (subst (λ (l : List ℕ). IsFaultOf e (first_refusal j start l)) (sym s.joined) (stopped s.done left.rest reader e s.taken is)))
 
-  pub broken_in : (X : Type 0) (text : List ℕ) (reader : Taken M) (left : Left) (r : Result X SetFault) (fault : SegmentFault) (e : SetFault) (P : X → Type 0) → StandsIn text reader left → next_of left ≡ Err fault
-      → e ≡ broken_by reader fault reader.fault → r ≡ Err e → Answers r (first_refusal j start text) P × IsWithin r (length text)
-  broken_in X text reader left r fault e P s next value same = (
-    subst (λ (u : Result X SetFault). Answers u (first_refusal j start text) P) (sym same)
-        (tells X e (first_refusal j start text) P (subst (λ (l : List ℕ). IsFaultOf e (first_refusal j start l)) (sym s.joined)
-        (subst (λ (f : SetFault). IsFaultOf f (first_refusal j start (s.done ++ left.rest))) (sym value)
-        (broken s.done left.rest reader fault reader.fault s.taken refl (ap (λ (n : ℕ). next_of (record { rest = left.rest; place = n })) (sym s.place) ∙ next))))),
-    subst (λ (u : Result X SetFault). IsWithin u (length text)) (sym same)
-        (subst (λ (f : SetFault). IsWithin (let u : Result X SetFault = Err f in u) (length text)) (sym value)
-        (within_more X (broken_by reader fault reader.fault) (length s.done) (length text) (broken_within X s.done reader fault reader.fault s.taken refl) (done_within text reader left s))),
-  )
+  pub refused_in_within : (X : Type 0) (text : List ℕ) (reader : Taken M) (left : Left) (r : Result X SetFault) (e : SetFault) → StandsIn text reader left → reader.fault ≡ Some e → r ≡ Err e → IsWithin r (length text)
+  refused_in_within X text reader left r e s is same =
+      subst (λ (u : Result X SetFault). IsWithin u (length text)) (sym same)
+          (within_more X e (length s.done) (length text) (stopped_within X s.done reader e s.taken is) (done_within text reader left s))
+
+  pub broken_in : (X : Type 0) (text : List ℕ) (reader : Taken M) (left : Left) (fault : SegmentFault) (e : SetFault) (P : X → Type 0) → StandsIn text reader left → next_of left ≡ Err fault
+      → e ≡ broken_by reader fault reader.fault → Answers (let u : Result X SetFault = Err e in u) (first_refusal j start text) P
+  broken_in X text reader left fault e P s next value =
+      tells X e (first_refusal j start text) P (subst (λ (l : List ℕ). IsFaultOf e (first_refusal j start l)) (sym s.joined)
+      (subst (λ (f : SetFault). IsFaultOf f (first_refusal j start (s.done ++ left.rest))) (sym value)
+      (broken s.done left.rest reader fault reader.fault s.taken refl (ap (λ (n : ℕ). next_of (record { rest = left.rest; place = n })) (sym s.place) ∙ next))))
+
+  pub broken_in_within : (X : Type 0) (text : List ℕ) (reader : Taken M) (left : Left) (fault : SegmentFault) (e : SetFault) → StandsIn text reader left
+      → e ≡ broken_by reader fault reader.fault → IsWithin (let u : Result X SetFault = Err e in u) (length text)
+  broken_in_within X text reader left fault e s value =
+      subst (λ (f : SetFault). IsWithin (let u : Result X SetFault = Err f in u) (length text)) (sym value)
+      (within_more X (broken_by reader fault reader.fault) (length s.done) (length text) (broken_within X s.done reader fault reader.fault s.taken refl) (done_within text reader left s))
 
   -- a reader that has stopped answers so for its text
-  pub stops : (X : Type 0) (text : List ℕ) (t : Taken M) (r : Result X SetFault) (e : SetFault) (P : X → Type 0) → IsTaken j start text t → t.fault ≡ Some e → r ≡ Err e → Answers r (first_refusal j start text) P × IsWithin r (length text)
-  stops X text t r e P taken is same =
-      refused_in X text t (record { rest = []; place = length text }) r e P (record { done = text; taken = taken; joined = sym (append-nil text); place = refl }) is same
+  pub stops : (X : Type 0) (text : List ℕ) (t : Taken M) (e : SetFault) (P : X → Type 0) → IsTaken j start text t → t.fault ≡ Some e → Answers (let u : Result X SetFault = Err e in u) (first_refusal j start text) P
+  stops X text t e P taken is =
+      refused_in X text t (record { rest = []; place = length text }) (Err e) e P (record { done = text; taken = taken; joined = sym (append-nil text); place = refl }) is refl
 
   -- and one that has not answers by what was said
   pub ends : (X : Type 0) (text : List ℕ) (t : Taken M) (r : Result X SetFault) (Read : M → X → Type 0) → IsTaken j start text t → t.fault ≡ None → Answers r (ended_at (j.whole t.said) t.size None) (Read t.said)

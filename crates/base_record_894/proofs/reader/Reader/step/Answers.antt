@@ -1,0 +1,22 @@
+use Rattle.std.proofs.Common.{sym, ap, ◌∙◌}
+use Rattle.transaction_set.specs.Kinds.{next_phase}
+use Rattle.transaction_set.specs.declared.kind.Form.TheVariants as forms
+use Rattle.transaction_set.proofs.Reading.{same_err}
+use Rattle.base_record_894.specs.Said.{Said}
+use Rattle.base_record_894.proofs.Steps.{no_reason, not_admitted, not_kept, stepped}
+use Rattle.base_record_894.proofs.reader.Reader.step.Goals as goal
+
+pub returns-in_err-phase-clause-exact : goal.returns-in_err-phase-clause-exact
+returns-in_err-phase-clause-exact c =
+    not_admitted _ _ _ _ c.args.self.now c.self.inside.course c.self.inside.head c.args.place c.args.segment.now _ _ _ (same_err _ _ c.from_residual.ensures) c.self.view_is c.of-kind.ensures c.in_err-phase.ensures.exact
+
+pub returns-in-Ok-clause-exact : goal.returns-in-Ok-clause-exact
+returns-in-Ok-clause-exact c = (
+  no_reason c.args.self.now c.self.inside.course c.self.inside.head c.args.place c.args.segment.now _ c.self.view_is c.of-kind.ensures c.in_ok-phase.ensures.exact.0 c.in-Ok.ensures.0,
+  stepped c.args.self.now c.args.place c.args.segment.now c.of-kind.result c.in_ok-phase.phase c.self-2.inside.course c.advance.new.self c.self-2.inside.head c.of-kind.ensures
+      (ap (λ (s : Said). next_phase s.course.phase c.of-kind.result forms.Base) (sym c.self.view_is) ∙ c.in_ok-phase.ensures.exact.1) (c.self-2.view_is ∙ c.in-Ok.ensures.1) c.advance.ensures,
+)
+
+pub returns-in-Err-clause-exact : goal.returns-in-Err-clause-exact
+returns-in-Err-clause-exact c =
+    not_kept _ _ c.in-Err.fault c.args.self.now c.self.inside.course c.self.inside.head c.args.place c.args.segment.now _ _ _ c.self.view_is c.of-kind.ensures c.in_ok-phase.ensures.exact.0 c.in-Err.ensures

@@ -1,0 +1,14 @@
+use Rattle.std.proofs.Common.{sym, subst}
+use Rattle.transaction_set.specs.Taking.{IsTaken}
+use Rattle.transaction_set.proofs.Taking.{broken}
+use Rattle.base_record_894.specs.FirstRefusal.{judged}
+use Rattle.base_record_894.specs.Said.{nothing}
+use Rattle.base_record_894.proofs.taking.Reader894.broken.Goals as goal
+
+pub returns-in-Some-clause-exact : goal.returns-in-Some-clause-exact
+returns-in-Some-clause-exact c = λ text rest taken next.
+    broken judged nothing text rest (record { said = c.self.inside.reader; size = c.self.inside.size; fault = c.self.inside.fault }) c.args.fault _ (subst (IsTaken judged nothing text) (sym c.self.view_is) taken) c.in-Some.is next
+
+pub returns-in-None-clause-exact : goal.returns-in-None-clause-exact
+returns-in-None-clause-exact c = λ text rest taken next.
+    broken judged nothing text rest (record { said = c.self.inside.reader; size = c.self.inside.size; fault = c.self.inside.fault }) c.args.fault _ (subst (IsTaken judged nothing text) (sym c.self.view_is) taken) c.in-None.is next
