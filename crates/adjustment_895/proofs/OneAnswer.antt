@@ -1,5 +1,6 @@
 -- The answer that is read is the one that its text spells.
-use Rattle.std.proofs.Common.{◌≡◌, ℕ, List, [], Result, Err, Some, None, Option, refl, sym, ap, ◌∙◌, subst}
+use Rattle.std.proofs.Common.{◌≡◌, ℕ, List, [], Result, Ok, Err, Some, None, Option, refl, sym, ap, ◌∙◌, subst}
+use Rattle.std.specs.Prelude.{IfOk}
 use Rattle.dsd_values.specs.declared.line.Line.{Line}
 use Rattle.dsd_values.specs.SignatureRecord.{SignatureRecord}
 use Rattle.transaction_set.specs.declared.kind.Form.TheVariants as forms
@@ -121,3 +122,8 @@ pub found_as : (text : List ℕ) (parts : Parts) (a : AnswerRecord) (s : Seal) �
     → refusal_of text ≡ None → IsReadFrom (said_by judged nothing (cut_of text).segments) parts → Is895 a s text
 found_as text parts a s ea es e r =
     subst (λ (u : Seal). Is895 a u text) (sym es) (subst (λ (u : AnswerRecord). Is895 u (seal_of parts) text) (sym ea) (found text parts e r))
+
+-- what is read of some text
+pub read_right : (text : List ℕ) (r : Result Parts SetFault) → Answers r (refusal_of text) (IsReadFrom (said_by judged nothing (cut_of text).segments)) → IfOk r (λ parts. IsAnswer (answer_of parts))
+read_right text (Ok parts) h = spelled text parts h.0 h.1
+read_right text (Err fault) h = tt

@@ -1,5 +1,6 @@
 -- The record that is read is the one that its text spells.
-use Rattle.std.proofs.Common.{◌≡◌, ℕ, List, Result, Err, Some, None, Option, sym, ap, ◌∙◌, subst}
+use Rattle.std.proofs.Common.{◌≡◌, ℕ, List, Result, Ok, Err, Some, None, Option, sym, ap, ◌∙◌, subst}
+use Rattle.std.specs.Prelude.{IfOk}
 use Rattle.dsd_values.specs.Calendar.{Date}
 use Rattle.dsd_values.specs.declared.extra.Extra.{Extra}
 use Rattle.dsd_values.specs.declared.flag.Flag.{Flag}
@@ -132,3 +133,8 @@ pub found_as : (text : List ℕ) (parts : Parts) (b : BaseRecord) (s : Seal) →
     → refusal_of text ≡ None → IsReadFrom (said_by judged nothing (cut_of text).segments) parts → Is894 b s text
 found_as text parts b s eb es e r =
     subst (λ (u : Seal). Is894 b u text) (sym es) (subst (λ (u : BaseRecord). Is894 u (seal_of parts) text) (sym eb) (found text parts e r))
+
+-- what is read of some text
+pub read_right : (text : List ℕ) (r : Result Parts SetFault) → Answers r (refusal_of text) (IsReadFrom (said_by judged nothing (cut_of text).segments)) → IfOk r (λ parts. IsBase (record_of parts))
+read_right text (Ok parts) h = spelled text parts h.0 h.1
+read_right text (Err fault) h = tt

@@ -13,8 +13,8 @@ returns-in_err-phase-clause-exact c =
 pub returns-in-Ok-clause-exact : goal.returns-in-Ok-clause-exact
 returns-in-Ok-clause-exact c = (
   no_reason c.args.self.now c.args.place c.args.segment.now _ c.of-kind.ensures c.in_ok-phase.ensures.exact.0 c.in-Ok.ensures.0,
-  stepped c.args.self.now c.args.place c.args.segment.now c.of-kind.result c.in_ok-phase.phase c.self-2.inside.course c.advance.new.self c.self-2.inside.head c.of-kind.ensures
-      c.in_ok-phase.ensures.exact.1 (c.self-2.view_is ∙ c.in-Ok.ensures.1) c.advance.ensures,
+  stepped c.args.self.now c.args.place c.args.segment.now c.of-kind.result c.in_ok-phase.phase c.self.inside.course c.advance.new.self c.self.inside.head c.of-kind.ensures
+      c.in_ok-phase.ensures.exact.1 (c.self.view_is ∙ c.in-Ok.ensures.1) c.advance.ensures,
 )
 
 pub returns-in-Err-clause-exact : goal.returns-in-Err-clause-exact

@@ -4,7 +4,7 @@ use Rattle.transaction_set.proofs.Taking.{ends, ends_within, stopped_within, sto
 use Rattle.adjustment_895.specs.FirstRefusal.{judged}
 use Rattle.adjustment_895.specs.ReadParts.{IsReadFrom}
 use Rattle.adjustment_895.specs.Said.{Said, nothing}
-use Rattle.adjustment_895.proofs.OneAnswer.{spelled}
+use Rattle.adjustment_895.proofs.OneAnswer.{read_right}
 use Rattle.adjustment_895.proofs.taking.Reader895.parts.Goals as goal
 
 pub returns-in-Some-clause-exact : goal.returns-in-Some-clause-exact
@@ -20,3 +20,8 @@ returns-in-None-clause-exact c = λ text taken.
 pub returns-in-None-clause-within : goal.returns-in-None-clause-within
 returns-in-None-clause-within c = λ text taken.
     ends_within judged nothing _ text (record { said = c.self.inside.reader; size = c.self.inside.size; fault = c.self.inside.fault }) _ (IsReadFrom c.self.inside.reader) (subst (IsTaken judged nothing text) (sym c.self.view_is) taken) c.in-None.is c.finish.ensures
+
+pub returns-in-None-clause-right : goal.returns-in-None-clause-right
+returns-in-None-clause-right c =
+    let text = c.self.invariant.2.0 in
+    read_right text _ (ends judged nothing _ text (record { said = c.self.inside.reader; size = c.self.inside.size; fault = c.self.inside.fault }) _ IsReadFrom c.self.invariant.2.1 c.in-None.is c.finish.ensures)
