@@ -1,9 +1,8 @@
 -- A reader that takes the segments of a set one after another, of whichever form its first one is.
-use Rattle.std.specs.Prelude.{◌≡◌, ◌++◌, Bool, List, [], ℕ, Option, Some, None, Result, Ok, Err, true, false, if◌then◌else◌}
+use Rattle.std.specs.Prelude.{◌≡◌, ◌<◌, ℕ, Bool, true, false, List, [], length, Result, Err}
 use Rattle.segments.specs.Views.{Seg}
 use Rattle.segments.specs.declared.segment_fault.SegmentFault.{SegmentFault}
 use Rattle.transaction_set.specs.Kinds.{is_start_of}
-use Rattle.transaction_set.specs.Refusal.{Judged}
 use Rattle.transaction_set.specs.Taking.{IsTaken, Taken, Takes, broken_by, none_taken}
 use Rattle.transaction_set.specs.declared.kind.Form.TheVariants as forms
 use Rattle.transaction_set.specs.declared.set_fault.SetFault.{SetFault}
@@ -17,11 +16,16 @@ use Rattle.dsd_record.specs.SetTexts.{begins_as}
 use Rattle.dsd_record.specs.declared.set_reader.Begun.{Begun}
 use Rattle.dsd_record.specs.declared.set_reader.Begun.TheVariants as readers
 
--- The reader has taken segments whose joined bytes are this text. With no memory at its first segment nothing is said.
+-- some segment has come, and the first one begins an answer or not
+pub record HasBegun (answer : Bool) (text : List ℕ) : Type 0 where
+  pub some : 0 < length text
+  pub begins : begins_as forms.Answer text ≡ answer
+
+-- The reader has taken segments whose joined bytes are this text. Where there was no memory for the first one, nothing is said.
 abbrev pub HasTaken : List ℕ → Begun → Type 0
 HasTaken text readers.Nothing = text ≡ []
-HasTaken text (readers.Base base) = (begins_as forms.Answer text ≡ false) × IsTaken base_judged no_base text base
-HasTaken text (readers.Answer answer) = (begins_as forms.Answer text ≡ true) × IsTaken answer_judged no_answer text answer
+HasTaken text (readers.Base base) = HasBegun false text × IsTaken base_judged no_base text base
+HasTaken text (readers.Answer answer) = HasBegun true text × IsTaken answer_judged no_answer text answer
 HasTaken text readers.Lost = Unit {0}
 
 -- ---- one segment more

@@ -1,13 +1,19 @@
 //! Reading a set of either form whose segments come one after another.
 
-ghost use Rattle.std.specs.Prelude.{◌≡◌, ◌++◌, ◌<◌, ◌≤◌, ℕ, List, [], length, Err, IfOk, None, OnOk, Some};
+ghost use Rattle.std.specs.Prelude.{◌≡◌, ◌++◌, ◌<◌, ◌≤◌, ℕ, List, [], length, Err, IfOk, None, OnOk, Some, false, true};
 ghost use Rattle.dsd_values.specs.declared.limits.TheConstants.{SET_BYTES};
 ghost use Rattle.segments.specs.SegmentCut.{next_of};
 ghost use Rattle.transaction_set.specs.Refusal.{Answers, IsWithin};
-ghost use Rattle.transaction_set.specs.Taking.{IsFaultOf};
+ghost use Rattle.transaction_set.specs.Taking.{IsFaultOf, IsTaken};
+ghost use Rattle.transaction_set.specs.Kinds.{is_start_of};
+ghost use Rattle.transaction_set.specs.declared.kind.Form.TheVariants as forms;
+ghost use Rattle.base_record_894.specs.FirstRefusal.{judged as base_judged, refusal_of as base_refusal};
+ghost use Rattle.base_record_894.specs.Said.{nothing as no_base};
+ghost use Rattle.adjustment_895.specs.FirstRefusal.{judged as answer_judged, refusal_of as answer_refusal};
+ghost use Rattle.adjustment_895.specs.Said.{nothing as no_answer};
 ghost use Rattle.dsd_record.specs.ReadSets.{set_in};
 ghost use Rattle.dsd_record.specs.SetTexts.{IsSet, set_refusal};
-ghost use Rattle.dsd_record.specs.TakenSets.{HasTaken, TakesNext, set_broken_by};
+ghost use Rattle.dsd_record.specs.TakenSets.{Begins, HasTaken, TakesNext, set_broken_by};
 ghost use Rattle.dsd_record.specs.declared.set_view.SetView.{SetView as Set};
 
 use crate::set_view::SetView;
@@ -77,8 +83,10 @@ impl SetReader {
     /// Takes the first segment.
     #[inline(never)]
     fn begin(&mut self, segment: &Segment<'_>) -> Result<bool, SetFault>
+        ensures exact { Begins (is_start_of forms.Answer segment.now) segment.now result self.new }
+        ensures taken { HasTaken segment.now.bytes self.new }
     {
-        let (begun, answer) = begin(self.alloc, segment);
+        let (begun, answer) = begun_by(self.alloc, segment);
         self.begun = begun;
         answer
     }
@@ -97,19 +105,21 @@ impl SetReader {
         ensures exact { (text : List ℕ) → HasTaken text self → Answers result (set_refusal text) (λ _. Unit {0}) }
         ensures within { (text : List ℕ) → HasTaken text self → IsWithin result (length text) }
     {
+        self.read()
+    }
+
+    fn read(self) -> Result<SetView, SetFault>
+        ensures found { (text : List ℕ) → HasTaken text self → IfOk result (λ set. IsSet set text) }
+        ensures exact { (text : List ℕ) → HasTaken text self → Answers result (set_refusal text) (λ _. Unit {0}) }
+        ensures within { (text : List ℕ) → HasTaken text self → IsWithin result (length text) }
+    {
         match self.begun {
+            Begun::Base(reader) => read_base(reader),
+            Begun::Answer(reader) => read_answer(reader),
             Begun::Nothing => Err(SetFault::Refused {
                 place: 0,
                 reason: SetReason::Order,
             }),
-            Begun::Base(reader) => {
-                let (base, seal) = reader.finish()?;
-                Ok(SetView::Base(base, seal))
-            }
-            Begun::Answer(reader) => {
-                let (answer, seal) = reader.finish()?;
-                Ok(SetView::Answer(answer, seal))
-            }
             Begun::Lost => Err(SetFault::Memory),
         }
     }
@@ -131,5 +141,67 @@ impl SetReader {
             Begun::Answer(reader) => reader.broken(fault),
             Begun::Lost => SetFault::Memory,
         }
+    }
+}
+
+fn read_base(reader: Reader894) -> Result<SetView, SetFault>
+    ensures found { (text : List ℕ) → IsTaken base_judged no_base text reader → IfOk result (λ set. IsSet set text) }
+    ensures exact { (text : List ℕ) → IsTaken base_judged no_base text reader → Answers result (base_refusal text) (λ _. Unit {0}) }
+    ensures within { (text : List ℕ) → IsTaken base_judged no_base text reader → IsWithin result (length text) }
+{
+    let (base, seal) = reader.finish()?;
+    Ok(SetView::Base(base, seal))
+}
+
+fn read_answer(reader: Reader895) -> Result<SetView, SetFault>
+    ensures found { (text : List ℕ) → IsTaken answer_judged no_answer text reader → IfOk result (λ set. IsSet set text) }
+    ensures exact { (text : List ℕ) → IsTaken answer_judged no_answer text reader → Answers result (answer_refusal text) (λ _. Unit {0}) }
+    ensures within { (text : List ℕ) → IsTaken answer_judged no_answer text reader → IsWithin result (length text) }
+{
+    let (answer, seal) = reader.finish()?;
+    Ok(SetView::Answer(answer, seal))
+}
+
+/// The set that begins with this segment, and the answer to it.
+fn begun_by(alloc: Global, segment: &Segment<'_>) -> (Begun, Result<bool, SetFault>)
+    ensures exact { Begins (is_start_of forms.Answer segment.now) segment.now result.1 result.0 }
+    ensures taken { HasTaken segment.now.bytes result.0 }
+{
+    if is_start_of(Form::Answer, segment) {
+        answer_by(alloc, segment)
+    } else {
+        base_by(alloc, segment)
+    }
+}
+
+/// The base record that begins with this segment.
+fn base_by(alloc: Global, segment: &Segment<'_>) -> (Begun, Result<bool, SetFault>)
+    requires { is_start_of forms.Answer segment.now ≡ false }
+    ensures exact { Begins false segment.now result.1 result.0 }
+    ensures taken { HasTaken segment.now.bytes result.0 }
+{
+    let _ = segment.bytes();
+    match Reader894::new(alloc) {
+        Ok(mut reader) => {
+            let answer = reader.take(segment);
+            (Begun::Base(reader), answer)
+        }
+        Err(_) => (Begun::Lost, Err(SetFault::Memory)),
+    }
+}
+
+/// The answer that begins with this segment.
+fn answer_by(alloc: Global, segment: &Segment<'_>) -> (Begun, Result<bool, SetFault>)
+    requires { is_start_of forms.Answer segment.now ≡ true }
+    ensures exact { Begins true segment.now result.1 result.0 }
+    ensures taken { HasTaken segment.now.bytes result.0 }
+{
+    let _ = segment.bytes();
+    match Reader895::new(alloc) {
+        Ok(mut reader) => {
+            let answer = reader.take(segment);
+            (Begun::Answer(reader), answer)
+        }
+        Err(_) => (Begun::Lost, Err(SetFault::Memory)),
     }
 }
