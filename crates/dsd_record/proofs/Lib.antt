@@ -1,6 +1,7 @@
 pub mod FirstSegments
 pub mod Sets
 pub mod ReadOnce
+pub mod TakenSets
 pub mod Changed
 pub mod Counted
 pub mod AfterChanges
