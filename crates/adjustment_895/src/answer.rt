@@ -16,9 +16,9 @@ use dsd_pricing::Totals;
 use dsd_values::{
     Cents, Check, DeliveryNumber, Flag, Kept, Level, Lines, Memory, Role, Signature, Word,
 };
-use transaction_set::{Closed, Seal, StatedTotals};
 use std::alloc::Global;
 use std::marker::Model;
+use transaction_set::{Closed, Seal, StatedTotals};
 
 /// An acknowledgement, or an adjustment with its lines: a value that some text of a set 895 spells, however long its segments are.
 #[derive(Debug, Drop)]

@@ -10,8 +10,8 @@ ghost use Rattle.adjustment_895.specs.FirstRefusal.{refusal_of};
 use crate::answer::Answer895;
 use crate::taking::Reader895;
 use segments::SegmentReader;
-use transaction_set::{Seal, SetFault};
 use std::alloc::Global;
+use transaction_set::{Seal, SetFault};
 
 /// Reads an answer: its value and its seal.
 pub fn read_895(alloc: Global, text: &[u8]) -> Result<(Answer895, Seal), SetFault>

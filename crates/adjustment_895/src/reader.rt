@@ -16,9 +16,9 @@ use crate::head::{AnswerHead, is_past_levels, read_head};
 use crate::parts::Parts;
 use dsd_values::{Memory, SET_BYTES};
 use segments::Segment;
-use transaction_set::{Course, Form, Kind, Phase, SetFault, SetReason, at, refuse};
 use std::alloc::Global;
 use std::marker::Model;
+use transaction_set::{Course, Form, Kind, Phase, SetFault, SetReason, at, refuse};
 
 /// An answer so far.
 #[derive(Drop)]

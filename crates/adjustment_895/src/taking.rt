@@ -2,8 +2,6 @@
 
 ghost use Rattle.std.specs.Prelude.{◌≡◌, ◌++◌, ℕ, List, [], length, Err, IfOk, None};
 ghost use Rattle.segments.specs.SegmentCut.{cut_of, next_of};
-ghost use Rattle.segments.specs.Views.{Left};
-ghost use Rattle.segments.specs.declared.segment_fault.SegmentFault.{SegmentFault as SegmentFaultValue};
 ghost use Rattle.transaction_set.specs.Refusal.{Answers, IsWithin, said_by};
 ghost use Rattle.transaction_set.specs.Taking.{IsFaultOf, IsTaken, Takes, broken_by, none_taken};
 ghost use Rattle.transaction_set.specs.declared.seal.Seal.{Seal as SealValue};
@@ -18,9 +16,9 @@ use crate::parts::Parts;
 use crate::reader::Reader;
 use dsd_values::Memory;
 use segments::{Segment, SegmentFault};
-use transaction_set::{Seal, SetFault, SetReason};
 use std::alloc::Global;
 use std::marker::Model;
+use transaction_set::{Seal, SetFault, SetReason};
 
 /// An answer so far. It counts places from the start of its first segment, wherever that stands.
 #[derive(Drop)]
@@ -103,7 +101,11 @@ impl Reader895 {
         ensures within { (text : List ℕ) → IsTaken judged nothing text self → IsWithin result (length text) }
         ensures right { IfOk result (λ parts. IsAnswer (answer_of parts)) }
     {
-        let Reader895 { reader, size, fault } = self;
+        let Reader895 {
+            reader,
+            size,
+            fault,
+        } = self;
         match fault {
             Some(fault) => Err(fault),
             None => reader.finish(size),

@@ -17,8 +17,8 @@ use crate::answer::Answer895;
 use dsd_pricing::WriteFault;
 use dsd_values::{Check, Role, SET_BYTES, SetText, write_check, write_level};
 use segments::SegmentWriteFault;
-use transaction_set::{Form, SetWriter, flag_letter, head_id};
 use std::alloc::Global;
+use transaction_set::{Form, SetWriter, flag_letter, head_id};
 
 /// Writes an answer under this control number. It is read back as the same answer.
 pub fn write_895(alloc: Global, answer: &Answer895, control: u32) -> Result<SetText, WriteFault>

@@ -1,5 +1,5 @@
 -- A segment more, which starts at a place of the set.
-use Rattle.std.proofs.Common.{◌≡◌, ℕ, ◌+◌, Option, Some, None, Result, Ok, Err, refl, sym, ap, ◌∙◌, subst, length, arith}
+use Rattle.std.proofs.Common.{◌≡◌, ℕ, ◌+◌, Option, Some, None, Result, Err, refl, sym, ap, ◌∙◌, subst, length, arith}
 use Rattle.block_check.specs.Crc16.{crc_from}
 use Rattle.segments.specs.Views.{Seg}
 use Rattle.segments.specs.Elements.{◌or_else◌}

@@ -15,9 +15,9 @@ use crate::notes::Notes;
 use crate::parts::Parts;
 use dsd_pricing::{PriceFault, amount_of, quantities};
 use dsd_values::{Cents, Day, DeliveryNumber, Extras, Flag, Kept, Lines, Memory, Signature, Word};
-use transaction_set::{Closed, Seal, StatedTotals};
 use std::alloc::Global;
 use std::marker::Model;
+use transaction_set::{Closed, Seal, StatedTotals};
 
 /// What a supplier states of a delivery: a value that some text of a set 894 spells, however long its segments are.
 #[derive(Debug, Drop)]

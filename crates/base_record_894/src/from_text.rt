@@ -10,8 +10,8 @@ ghost use Rattle.base_record_894.specs.FirstRefusal.{refusal_of};
 use crate::base::Base;
 use crate::taking::Reader894;
 use segments::SegmentReader;
-use transaction_set::{Seal, SetFault};
 use std::alloc::Global;
+use transaction_set::{Seal, SetFault};
 
 /// Reads a base record: its value and its seal.
 pub fn read_894(alloc: Global, text: &[u8]) -> Result<(Base, Seal), SetFault>

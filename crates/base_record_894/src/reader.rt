@@ -1,6 +1,6 @@
 //! The reader of a base record, pushed one segment at a time.
 
-ghost use Rattle.std.specs.Prelude.{◌≡◌, ℕ, ◌+◌, ◌<◌, ◌≤◌, List, [], ◌∷◌, length, IfOk, OnOk, None, Some};
+ghost use Rattle.std.specs.Prelude.{◌≡◌, ◌+◌, ◌<◌, ◌≤◌, length, IfOk, OnOk, None, Some};
 ghost use Rattle.transaction_set.specs.Reasons.{Says};
 ghost use Rattle.transaction_set.specs.Refusal.{Answers, ended_at};
 ghost use Rattle.transaction_set.specs.Taking.{in_set};
@@ -13,9 +13,9 @@ use crate::parts::Parts;
 use crate::rows::compare_totals;
 use dsd_values::{Memory, SET_BYTES};
 use segments::Segment;
-use transaction_set::{Course, Form, Kind, SetFault, SetReason, at};
 use std::alloc::Global;
 use std::marker::Model;
+use transaction_set::{Course, Form, Kind, SetFault, SetReason, at};
 
 /// A base record so far.
 #[derive(Drop)]

@@ -16,8 +16,8 @@ use crate::base::Base;
 use dsd_pricing::WriteFault;
 use dsd_values::{Check, SET_BYTES, SetText, write_day};
 use segments::SegmentWriteFault;
-use transaction_set::{Form, SetWriter, flag_letter, head_id};
 use std::alloc::Global;
+use transaction_set::{Form, SetWriter, flag_letter, head_id};
 
 /// Writes a base record under this control number. It is read back as the same record.
 pub fn write_894(alloc: Global, base: &Base, control: u32) -> Result<SetText, WriteFault>

@@ -1,11 +1,10 @@
 -- A set that is taken segment by segment is the set of the text that its segments join to.
-use Rattle.std.proofs.Common.{◌≡◌, ◌⊎◌, ℕ, ◌+◌, ◌<◌, ◌≤◌, Bool, true, false, List, [], ◌∷◌, ◌++◌, length, Option, Some, None, Result, Ok, Err, inl, inr, refl, sym, ap, ◌∙◌, subst, arith, append_assoc, append-nil, length-append}
+use Rattle.std.proofs.Common.{◌≡◌, ℕ, ◌+◌, ◌<◌, ◌≤◌, Bool, true, false, List, [], ◌∷◌, ◌++◌, length, Option, Some, None, Result, Ok, Err, refl, sym, ap, ◌∙◌, subst, arith, append_assoc, append-nil, length-append}
 use Rattle.std.specs.Prelude.{IfOk, OnOk}
-use Rattle.std.proofs.lemmas.Bool.{cases_Bool}
 use Rattle.dsd_values.specs.declared.limits.TheConstants.{SET_BYTES}
-use Rattle.segments.specs.Views.{Left, Seg}
+use Rattle.segments.specs.Views.{Seg}
 use Rattle.segments.specs.SegmentCut.{next_of, text_start}
-use Rattle.segments.specs.SegmentSpelling.{IsFront, SpellsSegment, SpellsSegments}
+use Rattle.segments.specs.SegmentSpelling.{SpellsSegment, SpellsSegments}
 use Rattle.segments.specs.declared.segment_fault.SegmentFault.{SegmentFault}
 use Rattle.segments.proofs.Spelled.{bytes_some}
 use Rattle.transaction_set.specs.Kinds.{is_start_of}

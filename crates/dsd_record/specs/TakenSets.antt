@@ -3,15 +3,15 @@ use Rattle.std.specs.Prelude.{◌≡◌, ◌<◌, ℕ, Bool, true, false, List, 
 use Rattle.segments.specs.Views.{Seg}
 use Rattle.segments.specs.declared.segment_fault.SegmentFault.{SegmentFault}
 use Rattle.transaction_set.specs.Kinds.{is_start_of}
-use Rattle.transaction_set.specs.Taking.{IsTaken, Taken, Takes, broken_by, none_taken}
+use Rattle.transaction_set.specs.Taking.{IsTaken, Takes, broken_by, none_taken}
 use Rattle.transaction_set.specs.declared.kind.Form.TheVariants as forms
 use Rattle.transaction_set.specs.declared.set_fault.SetFault.{SetFault}
 use Rattle.transaction_set.specs.declared.set_fault.SetFault.TheVariants as errors
 use Rattle.transaction_set.specs.declared.set_fault.SetReason.TheVariants as reasons
 use Rattle.base_record_894.specs.FirstRefusal.{judged as base_judged}
-use Rattle.base_record_894.specs.Said.{Said as SaidBase, nothing as no_base}
+use Rattle.base_record_894.specs.Said.{nothing as no_base}
 use Rattle.adjustment_895.specs.FirstRefusal.{judged as answer_judged}
-use Rattle.adjustment_895.specs.Said.{Said as SaidAnswer, nothing as no_answer}
+use Rattle.adjustment_895.specs.Said.{nothing as no_answer}
 use Rattle.dsd_record.specs.SetTexts.{begins_as}
 use Rattle.dsd_record.specs.declared.set_reader.Begun.{Begun}
 use Rattle.dsd_record.specs.declared.set_reader.Begun.TheVariants as readers

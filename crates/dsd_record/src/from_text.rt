@@ -12,8 +12,8 @@ use crate::set_view::SetView;
 use adjustment_895::read_895;
 use base_record_894::read_894;
 use segments::SegmentReader;
-use transaction_set::{Form, SetFault, is_start_of};
 use std::alloc::Global;
+use transaction_set::{Form, SetFault, is_start_of};
 
 /// Reads the set of a text: an answer where the text begins as one, else a base record.
 pub fn set_of(alloc: Global, text: &[u8]) -> Result<SetView, SetFault>

@@ -20,9 +20,9 @@ use crate::set_view::SetView;
 use adjustment_895::Reader895;
 use base_record_894::Reader894;
 use segments::{Segment, SegmentFault};
-use transaction_set::{Form, SetFault, SetReason, is_start_of};
 use std::alloc::Global;
 use std::marker::Model;
+use transaction_set::{Form, SetFault, SetReason, is_start_of};
 
 /// Which set was begun.
 #[derive(Drop)]

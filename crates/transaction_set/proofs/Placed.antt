@@ -1,5 +1,5 @@
 -- What a segment says, and the reasons against it but for its length, do not depend on where it starts.
-use Rattle.std.proofs.Common.{◌≡◌, ℕ, Option, Some, None, Result, Ok, Err, refl, sym, ap, ◌∙◌, subst}
+use Rattle.std.proofs.Common.{◌≡◌, ℕ, Option, Some, None, Result, Err, refl, sym, ◌∙◌, subst}
 use Rattle.segments.specs.Views.{Seg}
 use Rattle.segments.specs.Elements.{◌or_else◌}
 use Rattle.transaction_set.specs.Kinds.{kind_of}

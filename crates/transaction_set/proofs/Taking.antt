@@ -1,14 +1,14 @@
 -- A reader that has taken segments stands where their joined bytes end, whatever follows.
 use Rattle.std.proofs.Common.{◌≡◌, ℕ, ◌+◌, ◌≤◌, Bool, true, false, List, [], ◌∷◌, ◌++◌, length, Option, Some, None, Result, Ok, Err, refl, sym, ap, ◌∙◌, subst, arith, append_assoc, append-nil, length-append}
 use Rattle.segments.specs.Views.{Seg, Left}
-use Rattle.segments.specs.SegmentCut.{Cut, cut_left, cut_of, left_after, next_of, text_start}
+use Rattle.segments.specs.SegmentCut.{cut_left, cut_of, left_after, next_of, text_start}
 use Rattle.segments.specs.SegmentSpelling.{IsFront, SpellsSegment, SpellsSegments}
 use Rattle.segments.specs.declared.segment_fault.SegmentFault.{SegmentFault}
 use Rattle.segments.proofs.Complete.{front_is}
 use Rattle.segments.proofs.Spelled.{next_of-end}
 use Rattle.transaction_set.specs.Reasons.{Says}
 use Rattle.transaction_set.specs.Refusal.{Answers, IsWithin, Judged, Refusal, ended_at, first_refusal, refused_at, said_by}
-use Rattle.transaction_set.specs.Taking.{AreRight, IsFaultOf, IsKept, IsTaken, StandsWith, Taken, Takes, TakesBehind, broken_by, first_reason, in_set, none_taken, taken_with, told_at}
+use Rattle.transaction_set.specs.Taking.{AreRight, IsFaultOf, IsTaken, StandsWith, Taken, Takes, TakesBehind, broken_by, first_reason, in_set, none_taken, taken_with, told_at}
 use Rattle.transaction_set.specs.declared.set_fault.SetFault.{SetFault}
 use Rattle.transaction_set.specs.declared.set_fault.SetFault.TheVariants as errors
 use Rattle.transaction_set.specs.declared.set_fault.SetReason.{SetReason}
@@ -269,7 +269,7 @@ module _ {M : Type 0} (j : Judged M) (start : M) where
       refused_behind j taken.segments start 0 text rest taken.spelled are.right
       ∙ ap (λ (n : ℕ). refusal_in j (said_by j start taken.segments) n (cut_left (record { rest = rest; place = n }))) (no_more (length text))
       ∙ sym (ap (λ (m : M). refusal_in j m t.size (cut_left (record { rest = rest; place = length text }))) are.said
-        ∙ ap (λ (n : ℕ). refusal_in j (said_by j start taken.segments) n (cut_left (record { rest = rest; place = length text }))) are.size)
+      ∙ ap (λ (n : ℕ). refusal_in j (said_by j start taken.segments) n (cut_left (record { rest = rest; place = length text }))) are.size)
 
   -- a whole text is refused where it ends too early
   pub whole_refusal : (text : List ℕ) (t : Taken M) → IsTaken j start text t → t.fault ≡ None → ended_at (j.whole t.said) t.size None ≡ first_refusal j start text
@@ -353,12 +353,12 @@ module _ {M : Type 0} (j : Judged M) (start : M) where
       → Answers r (first_refusal j start text) P
   refused_in X text reader left r e P s is same =
       subst (λ (u : Result X SetFault). Answers u (first_refusal j start text) P) (sym same)
-          (tells X e (first_refusal j start text) P (subst (λ (l : List ℕ). IsFaultOf e (first_refusal j start l)) (sym s.joined) (stopped s.done left.rest reader e s.taken is)))
+      (tells X e (first_refusal j start text) P (subst (λ (l : List ℕ). IsFaultOf e (first_refusal j start l)) (sym s.joined) (stopped s.done left.rest reader e s.taken is)))
 
   pub refused_in_within : (X : Type 0) (text : List ℕ) (reader : Taken M) (left : Left) (r : Result X SetFault) (e : SetFault) → StandsIn text reader left → reader.fault ≡ Some e → r ≡ Err e → IsWithin r (length text)
   refused_in_within X text reader left r e s is same =
       subst (λ (u : Result X SetFault). IsWithin u (length text)) (sym same)
-          (within_more X e (length s.done) (length text) (stopped_within X s.done reader e s.taken is) (done_within text reader left s))
+      (within_more X e (length s.done) (length text) (stopped_within X s.done reader e s.taken is) (done_within text reader left s))
 
   pub broken_in : (X : Type 0) (text : List ℕ) (reader : Taken M) (left : Left) (fault : SegmentFault) (e : SetFault) (P : X → Type 0) → StandsIn text reader left → next_of left ≡ Err fault
       → e ≡ broken_by reader fault reader.fault → Answers (let u : Result X SetFault = Err e in u) (first_refusal j start text) P

@@ -3,7 +3,7 @@ use Rattle.std.specs.Option.{IfSome}
 use Rattle.segments.specs.SegmentSpelling.{IsFront}
 use Rattle.segments.specs.Views.{Seg}
 use Rattle.transaction_set.proofs.Reading.{same_err}
-use Rattle.transaction_set.proofs.Taking.{StandsIn, broken_in, broken_in_within, goes_on_in, refused_in, refused_in_within, takes_fault, whole_in}
+use Rattle.transaction_set.proofs.Taking.{broken_in, broken_in_within, goes_on_in, refused_in, refused_in_within, takes_fault, whole_in}
 use Rattle.adjustment_895.specs.FirstRefusal.{judged}
 use Rattle.adjustment_895.specs.Said.{nothing}
 use Rattle.adjustment_895.proofs.OneAnswer.{only_err}

@@ -1,8 +1,6 @@
-use Rattle.std.proofs.Common.{sym, ap, ◌∙◌}
-use Rattle.transaction_set.specs.Kinds.{next_phase}
+use Rattle.std.proofs.Common.{◌∙◌}
 use Rattle.transaction_set.specs.declared.kind.Form.TheVariants as forms
 use Rattle.transaction_set.proofs.Reading.{same_err}
-use Rattle.adjustment_895.specs.Said.{Said}
 use Rattle.adjustment_895.proofs.Steps.{no_reason, not_admitted, not_kept, stepped}
 use Rattle.adjustment_895.proofs.reader.Reader.step.Goals as goal
 

@@ -1,4 +1,4 @@
-use Rattle.std.proofs.Common.{refl, sym, subst, ap, ◌∙◌, Some}
+use Rattle.std.proofs.Common.{sym, subst, ap, ◌∙◌}
 use Rattle.transaction_set.specs.Taking.{IsTaken, Taken}
 use Rattle.transaction_set.proofs.Taking.{ends, ends_within, stopped_within, stops}
 use Rattle.adjustment_895.specs.FirstRefusal.{judged}

@@ -1,6 +1,4 @@
-use Rattle.std.proofs.Common.{◌≡◌, ◌+◌, ◌++◌, ◌≤◌, ℕ, List, None, length, sym, subst, ap, ◌∙◌, arith}
-use Rattle.dsd_values.specs.declared.limits.TheConstants.{SET_BYTES}
-use Rattle.segments.specs.Views.{Seg}
+use Rattle.std.proofs.Common.{◌≡◌, ◌+◌, ◌++◌, ℕ, List, None, length, sym, subst, ap, ◌∙◌, arith}
 use Rattle.transaction_set.specs.Taking.{IsTaken, Taken}
 use Rattle.transaction_set.proofs.Taking.{refused_next, right_next, stopped_next}
 use Rattle.base_record_894.specs.FirstRefusal.{judged}
@@ -17,8 +15,10 @@ invariant_of-self c =
     let long : c.self.inside.size + length c.bytes-size.result.now ≡ c.self.inside.size + length c.args.segment.now.bytes = ap (λ (l : List ℕ). c.self.inside.size + length l) c.bytes-size.ensures.value in (
       counts_on c.self.inside.reader c.step.new.self c.self.inside.size (c.self.inside.size + length c.bytes-size.result.now) c.self.inside.fault c.args.segment.now none c.bytes-size.ensures.spelled c.in-Ok.ensures.exact.1 long c.self.invariant.0,
       omega (arith, long, c.in-Ok.ensures.short),
-      (c.self.invariant.2.0 ++ c.args.segment.now.bytes,
-       right_next judged nothing c.self.inside.reader c.step.new.self c.self.inside.size (c.self.inside.size + length c.bytes-size.result.now) c.self.inside.fault c.args.segment.now none c.bytes-size.ensures.spelled c.in-Ok.ensures.exact long c.self.invariant.2.0 c.self.invariant.2.1),
+      (
+        c.self.invariant.2.0 ++ c.args.segment.now.bytes,
+        right_next judged nothing c.self.inside.reader c.step.new.self c.self.inside.size (c.self.inside.size + length c.bytes-size.result.now) c.self.inside.fault c.args.segment.now none c.bytes-size.ensures.spelled c.in-Ok.ensures.exact long c.self.invariant.2.0 c.self.invariant.2.1,
+      ),
     )
 
 pub invariant_of-self-in-Err : goal.invariant_of-self-in-Err
@@ -26,8 +26,10 @@ invariant_of-self-in-Err c =
     let none : c.self.inside.fault ≡ None = c.in_default.is in (
       tt,
       c.self.invariant.1,
-      (c.self.invariant.2.0 ++ c.args.segment.now.bytes,
-       refused_next judged nothing _ c.self.inside.reader c.step.new.self c.self.inside.size c.self.inside.fault c.in-Err.fault c.told_at.result _ c.args.segment.now _ none c.bytes-size.ensures.spelled c.in-Err.ensures.exact c.told_at.ensures c.self.invariant.2.0 c.self.invariant.2.1),
+      (
+        c.self.invariant.2.0 ++ c.args.segment.now.bytes,
+        refused_next judged nothing _ c.self.inside.reader c.step.new.self c.self.inside.size c.self.inside.fault c.in-Err.fault c.told_at.result _ c.args.segment.now _ none c.bytes-size.ensures.spelled c.in-Err.ensures.exact c.told_at.ensures c.self.invariant.2.0 c.self.invariant.2.1,
+      ),
     )
 
 pub returns-in-Ok-clause-taken : goal.returns-in-Ok-clause-taken
