@@ -12,3 +12,5 @@ pub mod Standing
 pub mod FaultPlace
 pub mod SegmentLines
 pub mod LineUnits
+pub mod Parting
+pub mod Courses

@@ -145,11 +145,16 @@ impl TextCourse {
         requires right { reason_at self.old.standing segment.now ≡ None }
         requires kind { kind ≡ kind_at self.old.standing segment.now }
         requires placed { found_at self.old.standing ≤ segment.now.start }
-        ensures { self.new ≡ record { standing = bare (after self.old.standing segment.now); fault = self.old.fault } }
+        ensures stands { self.new ≡ record { standing = bare (after self.old.standing segment.now); fault = self.old.fault } }
+        ensures few { found_at self.new.standing ≤ segment.now.start + length segment.now.bytes }
     {
+        // A segment takes a byte at least, so there are fewer sets than places.
+        let _ = segment.bytes();
+        let _ = segment.end();
         match kind {
             PartKind::Header => {
                 self.control = Word::new(segment.element(4));
+                self.found = 0;
                 self.stage = CourseStage::Between;
             }
             PartKind::InSet => self.stage = CourseStage::Inside,

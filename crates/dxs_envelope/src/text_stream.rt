@@ -151,7 +151,7 @@ fn unreadable(place: usize, fault: SegmentFault) -> EnvelopeFault
 
 /// The part that a segment of this kind is.
 fn part_as(kind: PartKind, segment: Segment<'_>) -> Part<'_>
-    ensures { part_seen result ≡ record { kind = kind; segment = segment } }
+    ensures { part_seen result ≡ record { kind = kind; segment = segment.entry } }
 {
     match kind {
         PartKind::Header => Part::Header(segment),
