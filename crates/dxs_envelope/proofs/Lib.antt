@@ -14,3 +14,4 @@ pub mod SegmentLines
 pub mod LineUnits
 pub mod Parting
 pub mod Courses
+pub mod Pieced
