@@ -15,3 +15,4 @@ pub mod LineUnits
 pub mod Parting
 pub mod Courses
 pub mod Pieced
+pub mod TextWhole

@@ -71,11 +71,11 @@ nothing_begun stream piece fault sound fails =
 
 -- ---- a stream that has met a fault
 
-after_known : (text : TextAt) (piece : List ℕ) (fault : EnvelopeFault) → text.course.fault ≡ Some fault → after_bytes text piece ≡ let_go text
+pub after_known : (text : TextAt) (piece : List ℕ) (fault : EnvelopeFault) → text.course.fault ≡ Some fault → after_bytes text piece ≡ let_go text
 unfolding after_bytes
 after_known text piece fault e = ap (λ (f : Option EnvelopeFault). unless_refused f (let_go text) (heard_by (after_piece text.segments piece).fault text.course (after_piece text.segments piece))) e
 
-after_heard : (text : TextAt) (piece : List ℕ) → text.course.fault ≡ None
+pub after_heard : (text : TextAt) (piece : List ℕ) → text.course.fault ≡ None
     → after_bytes text piece ≡ heard_by (after_piece text.segments piece).fault text.course (after_piece text.segments piece)
 unfolding after_bytes
 after_heard text piece e = ap (λ (f : Option EnvelopeFault). unless_refused f (let_go text) (heard_by (after_piece text.segments piece).fault text.course (after_piece text.segments piece))) e
