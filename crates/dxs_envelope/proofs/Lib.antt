@@ -12,3 +12,7 @@ pub mod Standing
 pub mod FaultPlace
 pub mod SegmentLines
 pub mod LineUnits
+pub mod Parting
+pub mod Courses
+pub mod Pieced
+pub mod TextWhole

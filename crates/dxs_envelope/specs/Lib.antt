@@ -4,3 +4,5 @@ pub mod FirstFault
 pub mod Transmission
 pub mod SetsLeft
 pub mod Sending
+pub mod TextParts
+pub mod TextPieces

@@ -8,6 +8,9 @@ mod sets;
 mod slice;
 mod stage;
 mod table;
+mod text_course;
+mod text_laws;
+mod text_stream;
 mod writing;
 
 pub use fault::{EnvelopeFault, EnvelopeReason};
@@ -18,4 +21,7 @@ pub use laws::{
 pub use outgoing::{EnvelopeWriteFault, Outgoing, TRANSMISSION_BYTES};
 pub use sets::Sets;
 pub use slice::SetSlice;
+pub use text_course::{PartKind, TextCourse};
+pub use text_laws::{a_text_stream_reads_its_text, parts_tell_the_sets};
+pub use text_stream::{Part, TextStream};
 pub use writing::write_transmission;
