@@ -1,5 +1,6 @@
 pub mod Causes
 pub mod Feeds
+pub mod Pieces
 pub mod Disk
 pub mod Planned
 pub mod Told

@@ -1,9 +1,20 @@
-use Rattle.std.proofs.Common.{arith}
-use Rattle.dsd_station.proofs.Joined.{on_err, takes_more}
+use Rattle.std.proofs.Common.{◌≡◌, ℕ, List, [], ◌<◌, length, arith, subst, sym, ap, ◌∙◌, vec_len}
+use Rattle.std.specs.Io.KnownBytes.{Consumes}
 use Rattle.dsd_station.proofs.reading.read_up_to.Goals as goal
 
-pub returns-in_err-read_piece-clause-taken : goal.returns-in_err-read_piece-clause-taken
-returns-in_err-read_piece-clause-taken g c =
-    let last = c.in_err-read_piece.ensures.taken in
-    let all = c.loop-piece.all in
-    on_err c.from_residual.result (takes_more c.args.limit _ _ _ all.items last.0 c.loop-piece.invariant.3 (omega (arith, last.1, all.ok.0)) last.2)
+pub returns-clause-bound : goal.returns-clause-bound
+returns-clause-bound g c =
+    let read = c.in_ok-read_through.ensures.read in
+    let all = read.2 [] c.new-all.ensures.items in
+    omega (arith, c.read_through.new.taker.ok.0, ap (λ (l : List ℕ). length l) all, read.1.few)
+
+pub returns-clause-bytes : goal.returns-clause-bytes
+returns-clause-bytes g c =
+    let read = c.in_ok-read_through.ensures.read in
+    subst (λ (l : List ℕ). Consumes (g.S.Source.left c.args.source.now) (g.S.Source.left c.read_through.new.source) l) (sym (read.2 [] c.new-all.ensures.items)) read.1.taken
+
+pub returns-clause-end : goal.returns-clause-end
+returns-clause-end g c few =
+    let read = c.in_ok-read_through.ensures.read in
+    let all = read.2 [] c.new-all.ensures.items in
+    read.1.whole (omega (arith, c.read_through.new.taker.ok.0, ap (λ (l : List ℕ). length l) all, few))
