@@ -66,14 +66,14 @@ pub fn read_up_to<S: Source>(
 }
 
 /// Reads a source to its end, or until it has given `limit` bytes, and hands them on in pieces as they come. It asks
-/// for no byte more, and does not read again after the end.
+/// for no byte more, and does not read again after the end. It answers how many came.
 pub fn read_through<S: Source, T: Taker>(
     source: &mut S,
     taker: &mut T,
     limit: usize,
-) -> Result<(), ReadFault>
+) -> Result<usize, ReadFault>
     requires { T.reach taker.old + limit < 2 ^ 64 }
-    ensures read { OnOk result ((bytes : List ℕ) × HasGiven limit (S.left source.old) (S.left source.new) bytes × HoldsMore T.holds taker.old taker.new bytes) }
+    ensures read { IfOk result (λ count. (bytes : List ℕ) × (length bytes ≡ count) × HasGiven limit (S.left source.old) (S.left source.new) bytes × HoldsMore T.holds taker.old taker.new bytes) }
     ensures kept { OnOk result (S.faults source.new ≡ S.faults source.old) }
     ensures ended { OneEndAtMost (S.ends source.old) (S.ends source.new) }
     ensures taken { OnErr result (TakesUpTo limit (S.left source.old) (S.left source.new)) }
@@ -89,7 +89,7 @@ pub fn read_through<S: Source, T: Taker>(
         }
         room -= count;
     }
-    Ok(())
+    Ok(limit - room)
 }
 
 /// Reads once through the lent piece, and hands on what came.
