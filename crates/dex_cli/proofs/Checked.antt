@@ -1,5 +1,6 @@
 -- A text is checked piece by piece.
-use Rattle.std.proofs.Common.{◌≡◌, ℕ, List, [], ◌∷◌, ◌++◌, Option, Some, None, Result, Ok, Err, OnOk, is_some, true, MatchOption, refl, sym, ap, ◌∙◌, subst, append_assoc, append-nil, length, arith}
+use Rattle.std.proofs.Common.{◌≡◌, ℕ, List, [], ◌∷◌, ◌++◌, Option, Some, None, Result, Ok, Err, OnOk, is_some, Bool, true, nat_eq, MatchOption, refl, sym, ap, ◌∙◌, subst, append_assoc, append-nil, length, arith}
+use Rattle.std.proofs.lemmas.Bool.Decides.{nat_tests}
 use Rattle.dxs_envelope.specs.FirstFault.{told_behind, told_of}
 use Rattle.dxs_envelope.specs.TextParts.{PartAt, Parts, begun_by, closed_by, grouped, no_parts, parts_behind, parts_of}
 use Rattle.dxs_envelope.specs.TextPieces.{TextAt, text_begun, text_left, told_then}
@@ -61,7 +62,7 @@ module _ (all : List ℕ → Told) (left : List ℕ → Parts) (old new : TextCh
       by_sets (one ∷ sets) is (brings.Refused refusal) says k =
           let only : closed_by part.kind set part.segment ≡ one ∷ [] = is ∙ ap (λ (l : List SetAt). one ∷ l) says.0 in
           let refused : IsRefusedSo all new refusal = λ more. subst (λ (l : List SetSummary). SumsUp (all more).sets (all more).fault l (endings.Refused refusal)) (sym k.0)
-            (stopped (all more) (told_as (begun_by part.kind set part.segment) (left more)) old.summaries.items one refusal (behind_part sums (one ∷ []) only more) says.1) in
+          (stopped (all more) (told_as (begun_by part.kind set part.segment) (left more)) old.summaries.items one refusal (behind_part sums (one ∷ []) only more) says.1) in
           subst (λ (ending : Option Refusal). MatchOption ending (GoesOn all left new) (IsRefusedSo all new)) (sym k.1) refused
 
 kept_from : (brought : Brought) (old mid new : TextChecking) → mid.summaries.items ≡ old.summaries.items → IsKept brought mid new → IsKept brought old new
@@ -111,6 +112,11 @@ refused_still all left left' checking some stands = by_ending checking.ending so
     by_ending None is has = (let never : ⊥ = cc in absurd never)
     by_ending (Some refusal) is has = has
 
+pub none_left : (rest : List ℕ) (empty : Bool) → empty ≡ nat_eq (length rest) 0 → empty ≡ true → length rest ≡ 0
+none_left rest empty is holds =
+    let none : nat_eq (length rest) 0 ≡ true = sym is ∙ holds in
+    grind (arith, nat_tests)
+
 -- the piece was taken
 pub piece_taken : (all : List ℕ → Told) (rest : List ℕ) (checking : TextChecking) → length rest ≡ 0 → StandsAt all (λ more. text_left checking.text (rest ++ more)) checking → StandsAt all (λ more. text_left checking.text more) checking
 piece_taken all [] checking none stands = stands
@@ -133,6 +139,7 @@ ends_refused {T} y set parts fault refusal answer none is = subst (λ (l : List 
   where
     same : (a b : EnvelopeFault) → (let r : Result T EnvelopeFault = Err a in r) ≡ Err b → a ≡ b
     same a b e = cc
+
     by_fault : (known : Option EnvelopeFault) → MatchOption known ((let r : Result T EnvelopeFault = Err fault in r) ≡ Ok y) (λ f. (let r : Result T EnvelopeFault = Err fault in r) ≡ Err f) → Ends (grouped set []) known (endings.Refused refusal)
     by_fault None e = (let never : ⊥ = cc in absurd never)
     by_fault (Some known) e = is ∙ ap refusal_of (same fault known e)
@@ -157,14 +164,17 @@ piece_comes input piece checking has = by_ending checking.ending refl
     by_ending : (ending : Option Refusal) → checking.ending ≡ ending → StandsAt (λ more. told_of ((input ++ piece) ++ more)) (λ more. text_left checking.text (piece ++ more)) checking
     by_ending None is =
         let goes : GoesOn (λ more. told_of (input ++ more)) (λ more. text_left checking.text more) checking = goes_open (λ more. told_of (input ++ more)) (λ more. text_left checking.text more) checking is has in
-        let more_goes : GoesOn (λ more. told_of ((input ++ piece) ++ more)) (λ more. text_left checking.text (piece ++ more)) checking = record { set = goes.set; begun = goes.begun;
-          sums = λ more. subst (λ (l : List ℕ). Summed (told_of l) checking.summaries.items (told_as goes.set (text_left checking.text (piece ++ more)))) (sym (append_assoc input piece more)) (goes.sums (piece ++ more)) } in
+        let more_goes : GoesOn (λ more. told_of ((input ++ piece) ++ more)) (λ more. text_left checking.text (piece ++ more)) checking = record {
+          set = goes.set;
+          begun = goes.begun;
+          sums = λ more. subst (λ (l : List ℕ). Summed (told_of l) checking.summaries.items (told_as goes.set (text_left checking.text (piece ++ more)))) (sym (append_assoc input piece more)) (goes.sums (piece ++ more));
+        } in
         subst (λ (ending : Option Refusal). MatchOption ending (GoesOn (λ more. told_of ((input ++ piece) ++ more)) (λ more. text_left checking.text (piece ++ more)) checking) (IsRefusedSo (λ more. told_of ((input ++ piece) ++ more)) checking)) (sym is) more_goes
     by_ending (Some refusal) is =
         let refused : IsRefusedSo (λ more. told_of (input ++ more)) checking refusal =
-          subst (λ (ending : Option Refusal). MatchOption ending (GoesOn (λ more. told_of (input ++ more)) (λ more. text_left checking.text more) checking) (IsRefusedSo (λ more. told_of (input ++ more)) checking)) is has in
+        subst (λ (ending : Option Refusal). MatchOption ending (GoesOn (λ more. told_of (input ++ more)) (λ more. text_left checking.text more) checking) (IsRefusedSo (λ more. told_of (input ++ more)) checking)) is has in
         let still : IsRefusedSo (λ more. told_of ((input ++ piece) ++ more)) checking refusal = λ more.
-          subst (λ (l : List ℕ). SumsUp (told_of l).sets (told_of l).fault checking.summaries.items (endings.Refused refusal)) (sym (append_assoc input piece more)) (refused (piece ++ more)) in
+        subst (λ (l : List ℕ). SumsUp (told_of l).sets (told_of l).fault checking.summaries.items (endings.Refused refusal)) (sym (append_assoc input piece more)) (refused (piece ++ more)) in
         subst (λ (ending : Option Refusal). MatchOption ending (GoesOn (λ more. told_of ((input ++ piece) ++ more)) (λ more. text_left checking.text (piece ++ more)) checking) (IsRefusedSo (λ more. told_of ((input ++ piece) ++ more)) checking)) (sym is) still
 
 -- nothing was taken
@@ -175,7 +185,7 @@ nothing_checked checking begun summaries left law = record {
   set = None;
   begun = subst (λ (b : Option BegunSet). HasBegun None b) (sym begun) tt;
   sums = λ more. subst (λ (l : List SetSummary). Summed (told_of more) l (told_as None (text_left checking.text more))) (sym summaries)
-    (λ later ending up. subst (λ (t : Told). SumsUp t.sets t.fault later ending) (ap (told_as None) (left more) ∙ sym (law more)) up);
+      (λ later ending up. subst (λ (t : Told). SumsUp t.sets t.fault later ending) (ap (told_as None) (left more) ∙ sym (law more)) up);
 }
 
 pub begun_left : (more : List ℕ) → text_left text_begun more ≡ parts_of more

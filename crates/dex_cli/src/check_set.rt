@@ -13,8 +13,8 @@ use crate::verdict::Verdict;
 use dsd_station::Taker;
 use dsd_values::Memory;
 use set_stream::SetStream;
-use transaction_set::SetFault;
 use std::alloc::{AllocError, Global};
+use transaction_set::SetFault;
 
 /// The set so far.
 #[derive(Drop)]

@@ -10,8 +10,8 @@ use crate::job::INPUT_BYTES;
 use crate::refusal::{Reason, Refusal};
 use crate::verdict::Verdict;
 use dsd_station::{ReadFault, Source, Taker, read_through};
-use transaction_set::SetReason;
 use std::alloc::AllocError;
+use transaction_set::SetReason;
 
 /// A check that takes its input in pieces.
 pub trait Checking: Taker + Drop {
