@@ -11,6 +11,8 @@ mod Replayed
 mod OneReplay
 pub mod OneStatus
 pub mod SumUp
+pub mod InPieces
+pub mod Checked
 mod Attaching
 pub mod LegalSets
 mod Rereading

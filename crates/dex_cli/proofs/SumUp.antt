@@ -1,28 +1,23 @@
 -- A text is summed up set by set.
-use Rattle.std.proofs.Common.{List, [], ◌∷◌, ◌++◌, inl, inr, sym, subst, append_assoc, append-nil}
+use Rattle.std.proofs.Common.{◌≡◌, List, [], ◌∷◌, ◌++◌, sym, subst, append_assoc, append-nil}
 use Rattle.dxs_envelope.specs.FirstFault.{told_behind}
-use Rattle.dxs_envelope.specs.Views.{Told}
-use Rattle.dex_cli.specs.Summaries.{Ends, SumsUp}
-use Rattle.dex_cli.specs.TextSteps.{IsStep}
-use Rattle.dex_cli.specs.declared.check_text.Step.TheVariants as steps
+use Rattle.dxs_envelope.specs.Views.{SetAt, Told}
+use Rattle.dex_cli.specs.Summaries.{Ends, IsNoSetAt, IsSummary, SumsUp}
+use Rattle.dex_cli.specs.TextSteps.{Summed}
+use Rattle.dex_cli.specs.declared.refusal.Refusal.{Refusal}
 use Rattle.dex_cli.specs.declared.summary.SetSummary.{SetSummary}
 use Rattle.dex_cli.specs.declared.text_summary.TextEnding.{TextEnding}
 use Rattle.dex_cli.specs.declared.text_summary.TextEnding.TheVariants as endings
 
--- whatever sums up what is still to be told sums up all, behind these
-abbrev pub Summed : Told → List SetSummary → Told → Type 0
-Summed all done left = (later : List SetSummary) (ending : TextEnding) → SumsUp left.sets left.fault later ending → SumsUp all.sets all.fault (done ++ later) ending
+-- a set is summed up
+pub one_more : (all new : Told) (done : List SetSummary) (set : SetAt) (summary : SetSummary) → Summed all done (told_behind set new) → IsSummary set.bytes summary → Summed all (done ++ summary ∷ []) new
+one_more all new done set summary summed says later ending up =
+    subst (λ (l : List SetSummary). SumsUp all.sets all.fault l ending) (sym (append_assoc done (summary ∷ []) later)) (summed (summary ∷ later) ending (says, up))
 
-pub one_more : (all old new : Told) (done : List SetSummary) (summary : SetSummary) → Summed all done old → IsStep old (steps.Set summary) new → Summed all (done ++ summary ∷ []) new
-one_more all old new done summary summed (set, is, says) later ending up =
-    let here : SumsUp (told_behind set new).sets (told_behind set new).fault (summary ∷ later) ending = (says, up) in
-    let there : SumsUp old.sets old.fault (summary ∷ later) ending = subst (λ (t : Told). SumsUp t.sets t.fault (summary ∷ later) ending) (sym is) here in
-    subst (λ (l : List SetSummary). SumsUp all.sets all.fault l ending) (sym (append_assoc done (summary ∷ []) later)) (summed (summary ∷ later) ending there)
+-- nothing more is
+pub ended : (all left : Told) (done : List SetSummary) (ending : TextEnding) → Summed all done left → Ends left.sets left.fault ending → SumsUp all.sets all.fault done ending
+ended all left done ending summed ends = subst (λ (l : List SetSummary). SumsUp all.sets all.fault l ending) (append-nil done) (summed [] ending ends)
 
-ends_so : (old new : Told) (ending : TextEnding) → IsStep old (steps.End ending) new → Ends old.sets old.fault ending
-ends_so old new endings.Whole is = subst (λ (t : Told). Ends t.sets t.fault endings.Whole) (sym is) tt
-ends_so old new (endings.Refused refusal) (inl out) = subst (λ (t : Told). Ends t.sets t.fault (endings.Refused refusal)) (sym out.old_is) out.refusal_is
-ends_so old new (endings.Refused refusal) (inr (set, is, none)) = subst (λ (t : Told). Ends t.sets t.fault (endings.Refused refusal)) (sym is) none
-
-pub ended : (all old new : Told) (done : List SetSummary) (ending : TextEnding) → Summed all done old → IsStep old (steps.End ending) new → SumsUp all.sets all.fault done ending
-ended all old new done ending summed is = subst (λ (l : List SetSummary). SumsUp all.sets all.fault l ending) (append-nil done) (summed [] ending (ends_so old new ending is))
+-- a set is none
+pub stopped : (all new : Told) (done : List SetSummary) (set : SetAt) (refusal : Refusal) → Summed all done (told_behind set new) → IsNoSetAt set refusal → SumsUp all.sets all.fault done (endings.Refused refusal)
+stopped all new done set refusal summed none = ended all (told_behind set new) done (endings.Refused refusal) summed none

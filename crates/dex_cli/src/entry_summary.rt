@@ -12,8 +12,8 @@ use dsd_journal::EntryKind;
 use dsd_record::SetView;
 use dsd_values::{Check, DeliveryNumber, Level, Word, write_check};
 use end_report::{put, put_bytes, put_named, put_number, put_pair};
-use transaction_set::Seal;
 use std::alloc::{AllocError, Global};
+use transaction_set::Seal;
 
 /// What is printed of an entry of a journal.
 #[derive(Debug, Drop)]

@@ -8,21 +8,22 @@ ghost use Rattle.dsd_values.specs.declared.role.Role.{Role as RoleValue};
 ghost use Rattle.dex_cli.specs.EndWords.{SpellsEnd};
 ghost use Rattle.dex_cli.specs.Ends.{IsIdle};
 ghost use Rattle.dex_cli.specs.declared.end_words.EndNames.{EndNames as NamesValue};
-ghost use Rattle.dex_cli.specs.Verdicts.{read_of, Checks, HasServed, IsUnread, IsChecked, IsComposed, MayCome, status_of};
+ghost use Rattle.dex_cli.specs.Verdicts.{read_of, ChecksLine, HasServed, IsUnread, IsChecked, IsComposed, MayCome, status_of};
 ghost use Rattle.dex_cli.specs.Words.{AsksEnd, AsksJournal, AsksShow, AsksSource, AsksWorld, IsOfNoJob, Spells};
 ghost use Rattle.dex_cli.specs.Formatting.{served_of};
 ghost use Rattle.dex_cli.specs.Replaying.{IsToldOfWorld, worlds_of};
 ghost use Rattle.dex_cli.specs.Showing.{LooksAt};
 ghost use Rattle.dex_cli.specs.declared.verdict.Verdict.{Verdict as VerdictValue};
 ghost use Rattle.dex_cli.specs.declared.verdict.Verdict.TheVariants as verdicts;
+ghost use Rattle.dex_cli.specs.declared.words.CheckKind.TheVariants as checks;
 ghost use Rattle.dex_cli.specs.declared.words.Job.TheVariants as jobs;
 
-use crate::check_set::check_set;
-use crate::check_text::check_text;
+use crate::check_set::SetChecking;
+use crate::check_text::TextChecking;
+use crate::checking::{check_by, too_long};
 use crate::fault::WordsFault;
 use crate::formatting::make_journal;
 use crate::loading::load;
-use crate::refusal::{Reason, Refusal};
 use crate::replaying::replay;
 use crate::report::report_of;
 use crate::serving::serve_end;
@@ -33,7 +34,6 @@ use crate::words::{CheckKind, Job, read_words};
 use cable_world::World;
 use dsd_station::{ReadFault, Sink, Source, Station, read_up_to, write_all};
 use dsd_values::Role;
-use transaction_set::SetReason;
 use std::alloc::{AllocError, Global};
 
 /// The most bytes of an input.
@@ -135,28 +135,34 @@ fn check<S: Source>(alloc: Global, kind: CheckKind, source: &mut S) -> Result<Ve
     ensures taken { OnErr result (TakesUpTo (INPUT_BYTES + 1) (S.left source.old) (S.left source.new)) }
     ensures later { S.faults source.old ≤ S.faults source.new }
 {
+    match kind {
+        CheckKind::Set => check_by(source, SetChecking::new(alloc)),
+        CheckKind::Text => check_by(source, TextChecking::new(alloc)),
+        CheckKind::Line => check_line(alloc, source),
+    }
+}
+
+/// The verdict on captured bytes. Each of their frames is printed, so that they are kept.
+fn check_line<S: Source>(alloc: Global, source: &mut S) -> Result<Verdict, AllocError>
+    ensures told { IfOk result (λ verdict. let read = read_of S.left S.faults source.old source.new in IsUnread read verdict ⊎ IsChecked checks.Line read verdict) }
+    ensures taken { OnErr result (TakesUpTo (INPUT_BYTES + 1) (S.left source.old) (S.left source.new)) }
+    ensures later { S.faults source.old ≤ S.faults source.new }
+{
     match read_up_to(alloc, source, INPUT_BYTES + 1) {
-        Ok(input) => judge(alloc, kind, input),
+        Ok(input) => Ok(judge_line(input)),
         Err(ReadFault::Failed) => Ok(Verdict::SourceFault),
         Err(ReadFault::Memory) => Err(AllocError),
     }
 }
 
-/// The verdict of a check on its input, which is refused where it is longer than any may be.
-fn judge(alloc: Global, kind: CheckKind, input: Vec<u8>) -> Result<Verdict, AllocError>
-    ensures { IfOk result (Checks kind input.items) }
+/// The verdict on captured bytes, which are refused where they are longer than an input may be.
+fn judge_line(input: Vec<u8>) -> Verdict
+    ensures { ChecksLine input.items result }
 {
     if input.len() > INPUT_BYTES {
-        return Ok(Verdict::Refused(Refusal {
-            place: INPUT_BYTES,
-            reason: Reason::Set(SetReason::Limit),
-        }));
+        return too_long();
     }
-    match kind {
-        CheckKind::Set => check_set(alloc, &input),
-        CheckKind::Text => check_text(alloc, &input),
-        CheckKind::Line => Ok(Verdict::Line(input)),
-    }
+    Verdict::Line(input)
 }
 
 /// Writes the text of a verdict, and answers the status.

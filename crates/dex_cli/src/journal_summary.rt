@@ -12,8 +12,8 @@ use dsd_journal::{Header, Journal};
 use dsd_record::set_of;
 use dsd_values::Role;
 use end_report::{put, put_bytes, put_count};
-use transaction_set::SetFault;
 use std::alloc::{AllocError, Global};
+use transaction_set::SetFault;
 
 /// What is printed of a journal.
 #[derive(Debug, Drop)]

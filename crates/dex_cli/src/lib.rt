@@ -1,9 +1,11 @@
 //! The jobs of the program `dex`: from words and an input to a printed text and a status.
 #![tactic(auto)]
 
+mod begun_set;
 mod check_line;
 mod check_set;
 mod check_text;
+mod checking;
 mod end_job;
 mod end_words;
 mod entry_summary;

@@ -9,8 +9,8 @@ use dsd_record::DraftReason;
 use dsd_values::{ValueFault, write_check};
 use end_report::{put, put_bytes, put_named, put_number, put_signed};
 use segments::SegmentFault;
-use transaction_set::SetReason;
 use std::alloc::{AllocError, Global};
+use transaction_set::SetReason;
 
 /// The printed text of a fault of a segment.
 pub fn segment_fault(fault: SegmentFault) -> &'static str

@@ -7,8 +7,8 @@ use crate::reasons::{put_counts, put_draft_reason, put_set_reason, segment_fault
 use dsd_record::DraftReason;
 use dxs_envelope::EnvelopeReason;
 use end_report::{put, put_number};
-use transaction_set::SetReason;
 use std::alloc::{AllocError, Global};
+use transaction_set::SetReason;
 
 /// Where and why an input is refused.
 #[derive(Debug, Drop)]

@@ -17,8 +17,8 @@ use cable_world::{Script, World, WorldReport, open_world};
 use clean_worlds::{clean_endings_settle, foretold_endings_finish};
 use dsd_record::DraftFault;
 use dsd_station::{ReadFault, Source, read_up_to};
-use transaction_set::SetReason;
 use std::alloc::{AllocError, Global};
+use transaction_set::SetReason;
 
 /// Reads a script to the end of the source, and plays it. The world that played it is left to the caller; where the script is refused, or memory is
 /// wanting, the caller keeps what it had.

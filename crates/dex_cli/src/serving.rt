@@ -16,8 +16,8 @@ use dsd_station::{ReadFault, Source, Station, read_up_to};
 use dsd_values::Role;
 use handheld_core::Drafts;
 use receiver_core::Counts;
-use transaction_set::SetReason;
 use std::alloc::{AllocError, Global};
+use transaction_set::SetReason;
 
 /// Reads the choices of an end to the end of the source, and runs it. The station is not used where they are refused.
 pub fn serve_end<S: Source, T: Station>(

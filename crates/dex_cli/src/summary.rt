@@ -11,8 +11,8 @@ use base_record_894::Base;
 use dsd_record::SetView;
 use dsd_values::{Cents, Check, Day, DeliveryNumber, Flag, Level, Word, write_check, write_day};
 use end_report::{flag, put, put_bytes, put_count, put_pair};
-use transaction_set::Seal;
 use std::alloc::{AllocError, Global};
+use transaction_set::Seal;
 
 /// What is printed of a set.
 #[derive(Debug, Drop)]
