@@ -1,19 +1,18 @@
 -- A course behind a segment.
-use Rattle.std.proofs.Common.{◌≡◌, ◌≢◌, ℕ, ◌+◌, ◌<◌, ◌≤◌, ◌^◌, Bool, true, false, List, length, codes, Option, Some, None, refl, sym, ◌∙◌, ap, subst, inl, inr, arith}
+use Rattle.std.proofs.Common.{◌≡◌, ℕ, ◌+◌, ◌≤◌, true, List, length, codes, Option, Some, None, refl, ◌∙◌, ap, subst, inl, inr, arith}
 use Rattle.std.proofs.lemmas.Bool.{cases_Bool}
 use Rattle.std.proofs.lemmas.Bool.Decides.{nat_tests}
 use Rattle.segments.specs.SegmentSpelling.{SpellsSegment}
 use Rattle.segments.specs.Views.{Seg, element_of, has_id}
 use Rattle.segments.proofs.Spelled.{bytes_some}
-use Rattle.dxs_envelope.specs.EnvelopeTable.{has_function, has_length, is_control_number, is_header}
-use Rattle.dxs_envelope.specs.FirstFault.{Standing, Front, Between, Inside, Behind, after, header_reason, longer, reason_at}
+use Rattle.dxs_envelope.specs.EnvelopeTable.{is_control_number, is_header}
+use Rattle.dxs_envelope.specs.FirstFault.{Standing, Front, Between, Inside, Behind, after, header_reason, reason_at}
 use Rattle.dxs_envelope.specs.TextParts.{Course, after_segment, bare, course_by, fault_at, found_at, kind_at, standing_in, unless_refused}
 use Rattle.dxs_envelope.specs.declared.fault.EnvelopeFault.{EnvelopeFault}
 use Rattle.dxs_envelope.specs.declared.fault.EnvelopeReason.{EnvelopeReason}
 use Rattle.dxs_envelope.specs.declared.text_course.CourseStage.{CourseStage}
 use Rattle.dxs_envelope.specs.declared.text_course.CourseStage.TheVariants as stages
-use Rattle.dxs_envelope.specs.declared.text_course.PartKind.{PartKind}
-use Rattle.dxs_envelope.specs.declared.text_course.PartKind.TheVariants.{Header, InSet, SetEnd, Trailer}
+use Rattle.dxs_envelope.specs.declared.text_course.PartKind.TheVariants.{Header, SetEnd}
 use Rattle.dxs_envelope.proofs.Transmitted.{unless_none}
 use Rattle.dxs_envelope.specs.declared.fault.EnvelopeReason.TheVariants as reasons
 

@@ -1,12 +1,12 @@
 -- What is told of what is left part by part, a segment at a time, and the sets of the parts.
-use Rattle.std.proofs.Common.{◌≡◌, ℕ, ◌+◌, Bool, true, false, List, [], ◌∷◌, ◌++◌, length, codes, Ok, Err, Option, Some, None, refl, sym, ◌∙◌, ap, inl, inr}
+use Rattle.std.proofs.Common.{◌≡◌, ℕ, ◌+◌, List, [], ◌∷◌, length, codes, Ok, Err, Option, Some, None, refl, sym, ◌∙◌, ap, inl, inr}
 use Rattle.std.proofs.lemmas.Bool.{cases_Bool}
 use Rattle.segments.specs.SegmentCut.{Cut, cut_left, cut_of, left_after, next_of}
 use Rattle.segments.specs.Views.{Left, Seg, has_id}
 use Rattle.segments.specs.declared.segment_fault.SegmentFault.{SegmentFault}
 use Rattle.segments.proofs.Spelled.{next_front}
 use Rattle.segments.proofs.Stepping.{step_end, step_fault, step_segment}
-use Rattle.dxs_envelope.specs.FirstFault.{Standing, Front, Between, Inside, Behind, after, end_reason, ended_by, longer, reason_at, told_at, told_end, told_first, told_from, told_of}
+use Rattle.dxs_envelope.specs.FirstFault.{Standing, Front, Between, Inside, Behind, after, end_reason, ended_by, reason_at, told_at, told_end, told_first, told_from, told_of}
 use Rattle.dxs_envelope.specs.TextParts.{Parts, bare, fault_at, grouped, kind_at, no_parts, part_at, parts_behind, parts_by, parts_end, parts_from, parts_left, parts_of, placed_reason}
 use Rattle.dxs_envelope.specs.Views.{SetAt, Told}
 use Rattle.dxs_envelope.specs.declared.fault.EnvelopeReason.{EnvelopeReason}

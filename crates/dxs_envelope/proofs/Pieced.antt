@@ -1,15 +1,15 @@
 -- One piece of a text, taken by a stream of parts.
-use Rattle.std.proofs.Common.{◌≡◌, ℕ, ◌+◌, ◌-◌, ◌<◌, ◌≤◌, List, [], ◌∷◌, ◌++◌, length, drop, Result, Ok, Err, Option, Some, None, refl, sym, ◌∙◌, ap, subst, arith, append-nil}
+use Rattle.std.proofs.Common.{◌≡◌, ℕ, ◌+◌, ◌-◌, ◌≤◌, List, [], ◌++◌, length, drop, Result, Ok, Err, Option, Some, None, refl, sym, ◌∙◌, ap, subst, arith}
 use Rattle.std.specs.Prelude.{IfSome, MatchOption}
 use Rattle.segments.specs.SegmentCut.{left_after, next_of}
-use Rattle.segments.specs.Streaming.{EndsSo, MovesOn, Stops, Stream, Takes, after_piece, ahead, begun_or, heard_as, lasting, reached, taken_by, unless_fault}
+use Rattle.segments.specs.Streaming.{MovesOn, Stops, Stream, Takes, after_piece, ahead, begun_or, heard_as, lasting, reached, unless_fault}
 use Rattle.segments.specs.Views.{Left, Seg}
 use Rattle.segments.specs.declared.segment_fault.SegmentFault.{SegmentFault}
 use Rattle.segments.proofs.Spelled.{next_front}
 use Rattle.segments.proofs.Streams.{after_heard as stream_heard}
-use Rattle.dxs_envelope.specs.FirstFault.{Standing, after, reason_at}
-use Rattle.dxs_envelope.specs.TextParts.{Course, PartAt, Parts, after_segment, answered, bare, fault_at, found_at, kind_at, no_parts, part_at, parts_behind, parts_by, parts_left, placed_reason, unless_refused}
-use Rattle.dxs_envelope.specs.TextPieces.{HearsText, Judges, KeepsText, StopsText, TakesText, TextAt, after_bytes, failed, heard_by, kind_unless, let_go, part_of, parts_or, text_at, text_left, told_by, told_then}
+use Rattle.dxs_envelope.specs.FirstFault.{after, reason_at}
+use Rattle.dxs_envelope.specs.TextParts.{Course, PartAt, after_segment, answered, bare, fault_at, found_at, kind_at, no_parts, part_at, parts_behind, parts_by, parts_left, unless_refused}
+use Rattle.dxs_envelope.specs.TextPieces.{HearsText, Judges, TextAt, after_bytes, heard_by, kind_unless, let_go, part_of, parts_or, text_at, text_left, told_by, told_then}
 use Rattle.dxs_envelope.specs.declared.fault.EnvelopeFault.{EnvelopeFault}
 use Rattle.dxs_envelope.specs.declared.fault.EnvelopeReason.{EnvelopeReason}
 use Rattle.dxs_envelope.specs.declared.fault.EnvelopeReason.TheVariants as reasons

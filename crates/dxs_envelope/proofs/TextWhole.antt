@@ -1,5 +1,5 @@
 -- A whole text, taken by a stream of parts.
-use Rattle.std.proofs.Common.{◌≡◌, ℕ, ◌+◌, ◌-◌, List, [], ◌∷◌, ◌++◌, length, take, drop, Result, Ok, Err, IfOk, IfErr, Option, Some, None, inl, inr, refl, sym, ◌∙◌, ap, subst, arith, append_assoc, append-nil}
+use Rattle.std.proofs.Common.{◌≡◌, ℕ, ◌+◌, ◌-◌, List, [], ◌∷◌, ◌++◌, length, take, drop, Result, Ok, Err, Option, Some, None, inl, inr, refl, sym, ◌∙◌, ap, subst, arith, append_assoc, append-nil}
 use Rattle.std.specs.Prelude.{MatchOption}
 use Rattle.std.proofs.lemmas.List.{drop-append-le, take-append-drop}
 use Rattle.segments.specs.SegmentCut.{next_of}
@@ -9,9 +9,9 @@ use Rattle.segments.specs.declared.segment_fault.SegmentFault.{SegmentFault}
 use Rattle.segments.specs.declared.segment_fault.SegmentFault.TheVariants.{NoEnd}
 use Rattle.segments.proofs.Spelled.{end_of-next}
 use Rattle.segments.proofs.Streams.{Told as StreamTold, err_from, nothing_open, taken_from, taken_so, waits_after}
-use Rattle.dxs_envelope.specs.FirstFault.{end_reason, reason_at}
+use Rattle.dxs_envelope.specs.FirstFault.{end_reason}
 use Rattle.dxs_envelope.specs.TextParts.{Course, PartAt, Parts, after_segment, answered, fault_at, kind_at, no_parts, parts_left, parts_of, placed_reason}
-use Rattle.dxs_envelope.specs.TextPieces.{HearsText, StopsText, TakesText, TextAt, TextStreamed, after_bytes, behind_bytes, each_taken, failed, heard_by, kind_unless, let_go, part_of, text_at, text_left, told_by, told_then, unheard, with_part}
+use Rattle.dxs_envelope.specs.TextPieces.{HearsText, StopsText, TakesText, TextAt, TextStreamed, after_bytes, behind_bytes, each_taken, heard_by, kind_unless, let_go, part_of, text_at, text_left, told_by, told_then, unheard, with_part}
 use Rattle.dxs_envelope.specs.declared.fault.EnvelopeFault.{EnvelopeFault}
 use Rattle.dxs_envelope.specs.declared.fault.EnvelopeReason.TheVariants as reasons
 use Rattle.dxs_envelope.proofs.Parting.{parts_fault, parts_nothing}

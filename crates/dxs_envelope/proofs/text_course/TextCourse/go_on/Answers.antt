@@ -1,11 +1,11 @@
-use Rattle.std.proofs.Common.{◌≡◌, ◌≤◌, ℕ, List, length, refl, sym, ◌∙◌, ap, subst, arith}
+use Rattle.std.proofs.Common.{◌≡◌, ◌≤◌, ℕ, List, length, sym, ◌∙◌, ap, subst, arith}
 use Rattle.segments.proofs.Ids.{no_place}
 use Rattle.segments.specs.Views.{element_of}
 use Rattle.segments.proofs.Spelled.{bytes_some}
 use Rattle.dxs_envelope.specs.FirstFault.{Standing, Between}
 use Rattle.dxs_envelope.specs.TextParts.{Course, found_at, kind_at, standing_in}
 use Rattle.dxs_envelope.specs.declared.text_course.PartKind.TheVariants.{Header, SetEnd}
-use Rattle.dxs_envelope.proofs.Courses.{control_short, counted, few_after, header_after}
+use Rattle.dxs_envelope.proofs.Courses.{control_short, counted, header_after}
 use Rattle.dxs_envelope.proofs.text_course.TextCourse.go_on.Goals as goal
 
 pub new-self-inside-requires-clause-characters : goal.new-self-inside-requires-clause-characters

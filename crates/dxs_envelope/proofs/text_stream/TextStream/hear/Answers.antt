@@ -1,11 +1,8 @@
-use Rattle.std.proofs.Common.{◌≡◌, ◌≤◌, ◌-◌, ℕ, List, length, Ok, Err, Option, Some, None, refl, sym, ◌∙◌, ap, subst, arith}
+use Rattle.std.proofs.Common.{◌≡◌, ◌-◌, ℕ, List, Ok, Err, Some, None, sym, ◌∙◌, ap, subst, arith}
 use Rattle.segments.specs.Streaming.{Stream, reached}
-use Rattle.segments.specs.declared.segment_fault.SegmentFault.{SegmentFault}
-use Rattle.dxs_envelope.specs.TextParts.{Course, fault_at, found_at}
+use Rattle.dxs_envelope.specs.TextParts.{Course, found_at}
 use Rattle.dxs_envelope.specs.TextPieces.{HearsText, TextAt, text_at}
 use Rattle.dxs_envelope.specs.declared.fault.EnvelopeFault.{EnvelopeFault}
-use Rattle.dxs_envelope.specs.declared.fault.EnvelopeReason.TheVariants as reasons
-use Rattle.dxs_envelope.specs.declared.text_course.PartKind.{PartKind}
 use Rattle.dxs_envelope.proofs.Pieced.{EndsAt, ends_at, err_fault, few_behind, judged_err, judged_ok, known_heard, nothing_begun, starts_behind, unread_heard}
 use Rattle.dxs_envelope.proofs.text_stream.TextStream.hear.Goals as goal
 
