@@ -81,7 +81,7 @@ module _ (text rest : List ℕ) (size : ℕ) (old new : Stream) (set : Begun) (r
   set_stops takes seg some set' fault taken stops more =
       let whole = one_more takes seg some set' taken in
       let stands = with_more text whole.read new.begun.rest (drop size rest) more whole.joined in
-      subst (λ (l : List ℕ). IsFaultOf fault (set_refusal l)) (sym stands) (set_stopped set set' seg whole.read fault stops whole.taken (new.begun.rest ++ (drop size rest ++ more)))
+      subst (λ (l : List ℕ). IsFaultOf fault (set_refusal l)) (sym stands) (set_stopped set set' seg fault stops whole.read (new.begun.rest ++ (drop size rest ++ more)) whole.taken)
 
 -- no segment can be read
 pub text_stops : (text rest : List ℕ) (old : Stream) (set : Begun) (fault : SegmentFault) (answer : SetFault) → Reads text old set rest → Stops old rest fault
