@@ -13,6 +13,7 @@ pub mod OneStatus
 pub mod SumUp
 pub mod InPieces
 pub mod Checked
+pub mod BegunSets
 mod Attaching
 pub mod LegalSets
 mod Rereading

@@ -64,16 +64,24 @@ fn take_segment(
 ) -> Result<(), Memory>
     ensures { OnOk result ((set : Option SetAt) → HasBegun set begun.old → HasBegun (Some (with_segment set segment.now)) begun.new) }
 {
-    if begun.is_none() {
-        *begun = Some(BegunSet {
-            start: segment.start(),
-            reader: SetReader::new(alloc),
-        });
-    }
     match begun {
         Some(set) => set.take(segment),
-        None => Ok(()),
+        None => begin(alloc, begun, segment),
     }
+}
+
+/// The first segment of a set.
+#[inline(never)]
+fn begin(alloc: Global, begun: &mut Option<BegunSet>, segment: &Segment<'_>) -> Result<(), Memory>
+    ensures { OnOk result (HasBegun (Some (with_segment None segment.now)) begun.new) }
+{
+    let mut set = BegunSet {
+        start: segment.start(),
+        reader: SetReader::new(alloc),
+    };
+    let taken = set.take(segment);
+    *begun = Some(set);
+    taken
 }
 
 /// The segment that ends the set.
