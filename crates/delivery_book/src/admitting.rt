@@ -25,8 +25,8 @@ use dsd_pricing::WriteFault;
 use dsd_record::{ApplyFault, DsdRecord, SetView, set_of};
 use dsd_values::{Check, Memory, Role};
 use segments::MOST_CONTROL_NUMBER;
-use transaction_set::SetFault;
 use std::alloc::Global;
+use transaction_set::SetFault;
 
 /// What an entry adds, where it may stand behind these; so many of them were signed.
 pub(crate) fn admitting(

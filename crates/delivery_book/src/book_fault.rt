@@ -7,8 +7,8 @@ use crate::fault::RuleFault;
 use dsd_pricing::WriteFault;
 use dsd_record::ApplyFault;
 use dsd_values::{Check, Level};
-use transaction_set::SetFault;
 use thiserror::Error;
+use transaction_set::SetFault;
 
 /// Why a set is neither signed nor taken. But for `Station` nothing has changed.
 #[derive(Clone, Copy, Debug, PartialEq, Eq, Error)]

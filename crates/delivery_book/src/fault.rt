@@ -7,8 +7,8 @@ ghost use Rattle.delivery_book.specs.declared.fault.RuleFault.TheVariants as rul
 use dsd_pricing::WriteFault;
 use dsd_record::ApplyFault;
 use dsd_values::{Check, Level, Memory};
-use transaction_set::SetFault;
 use thiserror::Error;
+use transaction_set::SetFault;
 
 /// Why an entry is not one of these rules. Nothing has changed.
 #[derive(Clone, Copy, Debug, PartialEq, Eq, Error)]

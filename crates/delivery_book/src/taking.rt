@@ -19,8 +19,8 @@ use crate::judging::judge;
 use dsd_journal::{Entry, EntryKind};
 use dsd_record::{DsdRecord, SetView, set_of};
 use dsd_values::Role;
-use transaction_set::SetFault;
 use std::alloc::Global;
+use transaction_set::SetFault;
 
 /// What a text adds that this end takes, or why it does not take it.
 pub(crate) fn taking(

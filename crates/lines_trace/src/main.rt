@@ -22,10 +22,10 @@ use dsd_values::{read_cents, read_delivery_number};
 use handheld_core::Drafts;
 use printing::{print_count, print_draft, print_lines, print_refusal, print_version};
 use receiver_core::Counts;
-use transaction_set::Seal;
 use std::alloc::Global;
 use std::io::{BufRead, BufReader, BufWriter, Write};
 use std::{io, str};
+use transaction_set::Seal;
 
 /// What stands between two parts, and behind what is printed of each.
 const FORM_FEED: u8 = 0x0C;
